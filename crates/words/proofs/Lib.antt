@@ -1,0 +1,5 @@
+-- What several proofs use, and the proofs of the crates above cite.
+pub mod Little
+pub mod Signed
+pub mod Parts
+pub mod Papers

@@ -1,0 +1,41 @@
+-- What document 01 says of an answer tells the answers apart. Assumes nothing.
+use mathlib.Core.Path.{_≡_}
+use mathlib.Core.List.{List, []}
+use Prim.Native.Nat.{ℕ}
+use native.Mathlib.Omega.{arith}
+use borrow.Author.Tests.{eq-eqb, ne-eqb}
+use Rattle.words.specs.declared.Refusal.{Refusal}
+use Rattle.words.specs.Paper.{Told, Paper, success, refused, by, told, checked, handed}
+
+-- a success is no refusal
+pub success-refused : {A : Type 0} {v : A} {t : Told} → success v ≡ refused t → ⊥
+success-refused e = let z : _≡_ {A = ℕ} 0 1 = cc in absurd (omega arith)
+
+-- two successes have the same values, and two refusals tell the same
+pub same-success : {A : Type 0} {v w : A} → success v ≡ success w → v ≡ w
+same-success e = cc
+
+pub same-told : {A : Type 0} {t u : Told} → _≡_ {A = Paper A} (refused t) (refused u) → t ≡ u
+same-told e = cc
+
+-- a refusal of the code is told apart by its number and its position
+pub same-refusal : {f g : Refusal} → told f ≡ told g → f ≡ g
+same-refusal e = λ i. record { number = e i .number; position = e i .position }
+
+module _ {A : Type 0} (n p : ℕ) (v : A) where
+  pub checked-good : n ≡ 0 → checked n p v ≡ success v
+  unfolding checked
+  checked-good e = simp (eq-eqb _ _ e)
+
+  pub checked-bad : (n ≡ 0 → ⊥) → checked n p v ≡ refused (by n p)
+  unfolding checked
+  checked-bad e = simp (ne-eqb _ _ e)
+
+module _ (n : ℕ) (part : List ℕ) where
+  pub handed-good : n ≡ 0 → handed n part ≡ part
+  unfolding handed
+  handed-good e = simp (eq-eqb _ _ e)
+
+  pub handed-bad : (n ≡ 0 → ⊥) → handed n part ≡ []
+  unfolding handed
+  handed-bad e = simp (ne-eqb _ _ e)

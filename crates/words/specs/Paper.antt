@@ -1,0 +1,42 @@
+-- What document 01 says that a function answers: it succeeds with values, or it is refused.
+use Prim.Native.Nat.{ℕ}
+use mathlib.Core.Bool.{cond}
+use mathlib.Core.List.{List, []}
+use lib.Dec.{eqb}
+use Rattle.words.specs.declared.Refusal.{Refusal}
+
+-- "A refusal returns its number, the position of the list, bin, cell or record at fault .. and, from the walk, the lists read so
+-- far. Other fields are 0, except that NO ROOM also returns the places needed and the walk's entry count."
+pub record Told : Type 0 where
+  pub number : ℕ
+  pub position : ℕ
+  pub lists : ℕ
+  pub places : ℕ
+  pub entries : ℕ
+
+pub data Paper (A : Type 0) : Type 0 where
+  success : A → Paper A
+  refused : Told → Paper A
+
+-- a refusal that tells its number and its position, with every other field 0
+abbrev pub by : ℕ → ℕ → Told
+by n p = record { number = n; position = p; lists = 0; places = 0; entries = 0 }
+
+-- document 01's number of an answer: 0 for a success
+abbrev pub numberOf : {A : Type 0} → Paper A → ℕ
+numberOf (success v) = 0
+numberOf (refused t) = t .number
+
+-- what the code's record of a refusal tells
+abbrev pub told : Refusal → Told
+told f = by (f .number) (f .position)
+
+-- ---- where a row of checks gives the number of the first that fails, and 0 where none does
+
+-- the values, or the refusal by that number at a position
+unfoldable pub checked : {A : Type 0} → ℕ → ℕ → A → Paper A
+checked n p v = cond (eqb n 0) (success v) (refused (by n p))
+
+-- a part of the image, or the empty part
+unfoldable pub handed : ℕ → List ℕ → List ℕ
+handed n part = cond (eqb n 0) part []

@@ -1,0 +1,50 @@
+-- Document 01, "Refusal numbers": the table, by name. The names are those of the code's constants.
+use Prim.Native.Nat.{ℕ}
+
+abbrev pub SHORT : ℕ
+SHORT = 1
+
+abbrev pub OUTSIDE : ℕ
+OUTSIDE = 2
+
+abbrev pub BAD-SIZE : ℕ
+BAD-SIZE = 3
+
+abbrev pub BAD-SIGN : ℕ
+BAD-SIGN = 4
+
+abbrev pub BAD-NAME : ℕ
+BAD-NAME = 5
+
+abbrev pub NO-LIST : ℕ
+NO-LIST = 6
+
+abbrev pub TOO-MANY : ℕ
+TOO-MANY = 7
+
+abbrev pub CUT-SHORT : ℕ
+CUT-SHORT = 8
+
+abbrev pub NO-ROOM : ℕ
+NO-ROOM = 9
+
+abbrev pub BAD-BIN : ℕ
+BAD-BIN = 10
+
+abbrev pub BAD-CELL : ℕ
+BAD-CELL = 11
+
+abbrev pub TOO-LARGE : ℕ
+TOO-LARGE = 12
+
+abbrev pub BAD-BUDGET : ℕ
+BAD-BUDGET = 13
+
+abbrev pub TOO-DEEP : ℕ
+TOO-DEEP = 14
+
+abbrev pub OUT-OF-STEPS : ℕ
+OUT-OF-STEPS = 15
+
+abbrev pub NOT-FOUND : ℕ
+NOT-FOUND = 16

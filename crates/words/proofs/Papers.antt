@@ -1,5 +1,5 @@
 -- What document 01 says of an answer tells the answers apart. Assumes nothing.
-use mathlib.Core.Path.{_≡_}
+use mathlib.Core.Path.{_≡_, sym}
 use mathlib.Core.List.{List, []}
 use Prim.Native.Nat.{ℕ}
 use native.Mathlib.Omega.{arith}
@@ -10,6 +10,9 @@ use Rattle.words.specs.Paper.{Told, Paper, success, refused, by, told, c
 -- a success is no refusal
 pub success-refused : {A : Type 0} {v : A} {t : Told} → success v ≡ refused t → ⊥
 success-refused e = let z : _≡_ {A = ℕ} 0 1 = cc in absurd (omega arith)
+
+pub refused-success : {A : Type 0} {v : A} {t : Told} → refused t ≡ success v → ⊥
+refused-success e = success-refused (sym e)
 
 -- two successes have the same values, and two refusals tell the same
 pub same-success : {A : Type 0} {v w : A} → success v ≡ success w → v ≡ w

@@ -1,5 +1,6 @@
 -- Document 01, "Refusal numbers": the table, by name. The names are those of the code's constants.
 use Prim.Native.Nat.{ℕ}
+use mathlib.Core.List.{List, [], _∷_}
 
 abbrev pub SHORT : ℕ
 SHORT = 1
@@ -48,3 +49,9 @@ OUT-OF-STEPS = 15
 
 abbrev pub NOT-FOUND : ℕ
 NOT-FOUND = 16
+
+-- the table whole, in its order
+abbrev pub numbers : List ℕ
+numbers =
+    SHORT ∷ OUTSIDE ∷ BAD-SIZE ∷ BAD-SIGN ∷ BAD-NAME ∷ NO-LIST ∷ TOO-MANY ∷ CUT-SHORT ∷ NO-ROOM ∷ BAD-BIN ∷ BAD-CELL ∷ TOO-LARGE ∷ BAD-BUDGET
+    ∷ TOO-DEEP ∷ OUT-OF-STEPS ∷ NOT-FOUND ∷ []

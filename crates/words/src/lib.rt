@@ -4,6 +4,7 @@ ghost use mathlib.Core.Path.{_≡_};
 ghost use Prim.Native.Nat.{_+_, _-_, _*_};
 ghost use lib.ListN.{length, take, drop};
 ghost use lib.IntN.{natAbs};
+ghost use Rattle.words.specs.Refusals.{numbers};
 ghost use Rattle.words.specs.Words.{byteAt, word16, word32, word64, signed, aboveZero};
 
 // Document 01's table of refusals, by name.
@@ -38,6 +39,30 @@ pub const TOO_DEEP: u32 = 14;
 pub const OUT_OF_STEPS: u32 = 15;
 
 pub const NOT_FOUND: u32 = 16;
+
+// The table whole: each constant is the number that the definitions have under its name.
+fn refusal_numbers() -> [u32; 16]
+    ensures { λ r. ⌜ r ≡ numbers ⌝ }
+{
+    [
+        SHORT,
+        OUTSIDE,
+        BAD_SIZE,
+        BAD_SIGN,
+        BAD_NAME,
+        NO_LIST,
+        TOO_MANY,
+        CUT_SHORT,
+        NO_ROOM,
+        BAD_BIN,
+        BAD_CELL,
+        TOO_LARGE,
+        BAD_BUDGET,
+        TOO_DEEP,
+        OUT_OF_STEPS,
+        NOT_FOUND,
+    ]
+}
 
 // A refusal: its number in the table, and the position at fault, counted from the start of the image.
 pub struct Refusal {
@@ -150,10 +175,10 @@ pub fn magnitude(x: i32) -> u32
 }
 
 // A signed word as it is, or 0 for a negative one.
-pub fn above_zero(x: i32) -> u32
-    ensures { λ r. ⌜ r ≡ aboveZero x ⌝ }
+pub fn above_zero(z: i32) -> u32
+    ensures { λ r. ⌜ r ≡ aboveZero z ⌝ }
 {
-    if x < 0 { 0 } else { x as u32 }
+    if z < 0 { 0 } else { z as u32 }
 }
 
 // What of `s` stands from a position on: nothing past the end.

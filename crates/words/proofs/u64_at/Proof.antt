@@ -92,7 +92,9 @@ join8-requires c κs = search needs
 returns : tie.Need-returns
 returns c =
     let a = c .before .before .before .before .before .before .before .before .before .before .before .before .before .before .args in
-    omega (arith, c .join8 .ensures, c .before .join42 .ensures, c .before .before .before .before .before .before .join4 .ensures, little-split 4 4 (a .s .now) (a .at), little-4 (a .s .now) (a .at), little-far-4 (a .s .now) (a .at))
+    let low = c .before .before .before .before .before .before .join4 .ensures ∙ sym (little-4 (a .s .now) (a .at)) in
+    let high = c .before .join42 .ensures ∙ sym (little-far-4 (a .s .now) (a .at)) in
+    c .join8 .ensures ∙ (λ i. low i + 4294967296 * high i) ∙ sym (little-split 4 4 (a .s .now) (a .at))
 
 -- src/lib.rt:101:22
 u32-at-requires : tie.Need-u32-at-requires

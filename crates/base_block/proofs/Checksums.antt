@@ -1,0 +1,43 @@
+-- Laws of the checksum. Assumes nothing.
+use mathlib.Core.Path.{_≡_, refl}
+use mathlib.Core.List.{List}
+use mathlib.Core.Bool.{Bool, true, false, cond}
+use Prim.Native.Nat.{ℕ, zero, suc, _+_, _*_, _^_, _≤_, _<_}
+use native.Mathlib.Numerals.{add-one}
+use native.Mathlib.Omega.{arith}
+use lib.Bits.{bitXor, xor-lt}
+use lib.Dec.{eqb}
+use borrow.Author.Tests.{eqb-false}
+use Rattle.words.specs.Words.{word32}
+use Rattle.words.proofs.Little.{Bytes, little-lt}
+use Rattle.base_block.specs.Checksum.{xorOf, mended, sumOf}
+
+-- one word more
+pub xor-more : (s : List ℕ) (n : ℕ) → xorOf s (n + 1) ≡ bitXor (xorOf s n) (word32 s (4 * n))
+unfolding xorOf
+xor-more s n = rw add-one
+
+xor-range : (s : List ℕ) → Bytes s → (n : ℕ) → xorOf s n < 2 ^ 32
+unfolding xorOf
+xor-range s b zero = omega arith
+xor-range s b (suc n) = xor-lt 32 (xorOf s n) (word32 s (4 * n)) (xor-range s b n) (little-lt 4 s b (4 * n))
+
+abbrev Between : ℕ → Type 0
+Between x = (1 ≤ x) × (x ≤ 0xFFFF_FFFE)
+
+mended-range : (x : ℕ) → x < 2 ^ 32 → Between (mended x)
+unfolding mended
+mended-range x h = go (eqb x 0) (eqb x 0xFFFF_FFFF) refl refl
+  where
+    go : (p q : Bool) → eqb x 0 ≡ p → eqb x 0xFFFF_FFFF ≡ q → Between (cond p 1 (cond q 0xFFFF_FFFE x))
+    go true q e f = omega arith
+    go false true e f = omega arith
+    go false false e f =
+        let a : x ≡ 0 → ⊥ = eqb-false x 0 e in
+        let b : x ≡ 0xFFFF_FFFF → ⊥ = eqb-false x 0xFFFF_FFFF f in
+        omega arith
+
+-- "So the result lies between 1 and FFFFFFFE"
+pub sum-range : (s : List ℕ) → Bytes s → (1 ≤ sumOf s) × (sumOf s ≤ 0xFFFF_FFFE)
+unfolding sumOf
+sum-range s b = mended-range (xorOf s 127) (xor-range s b 127)

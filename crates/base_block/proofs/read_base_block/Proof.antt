@@ -1,0 +1,32 @@
+use mathlib.Core.Path.{sym, ap, _∙_}
+use Rattle.words.specs.Paper.{success}
+use Rattle.words.proofs.Papers.{checked-good, checked-bad}
+use Rattle.base_block.specs.Block.{blockOf}
+use borrow.Author.Needs.{needs}
+use Rattle.base_block.proofs.read_base_block.Statement.{statement}
+use Rattle.base_block.proofs.read_base_block.Tie as tie
+use Rattle.base_block.proofs.read_base_block.Reads as reads
+use Rattle.base_block.proofs.read_base_block.Lts as lts
+use Rattle.base_block.proofs.fault.Reads as fault-reads
+use Rattle.base_block.proofs.fields.Reads as fields-reads
+
+-- src/lib.rt:159:9
+fault-requires : tie.Need-fault-requires
+fault-requires c κs = search needs
+
+-- src/lib.rt:161:28
+fields-requires : tie.Need-fields-requires
+fields-requires c κs = search needs
+
+-- src/lib.rt:156:1
+returns : tie.Need-returns
+unfolding blockOf
+returns c = rw (← c .before .before .fault .ensures) (ap success (c .fields .ensures) ∙ sym (checked-good _ _ _ (c .before .if1 .taken)))
+
+-- src/lib.rt:156:1
+returns-2 : tie.Need-returns-2
+unfolding blockOf
+returns-2 c = rw (← c .before .fault .ensures) (sym (checked-bad _ _ _ (c .if1 .left)))
+
+pub read-base-block-spec : {M : Type 1} → statement M
+read-base-block-spec = tie.close (tie.spec fault-requires fields-requires returns returns-2)

@@ -1,0 +1,11 @@
+-- Document 01, "Modules in order": "`is_big_data_block` is true exactly when bytes 4 and 5 exist and are `db`".
+use Prim.Native.Nat.{ℕ}
+use mathlib.Core.List.{List}
+use mathlib.Core.Bool.{Bool, false, cond}
+use lib.ListN.{length}
+use lib.Dec.{ltb, eqb}
+use Rattle.words.specs.Words.{byteAt}
+
+-- the two letters are 100 and 98
+unfoldable pub isBigDataBlock : List ℕ → Bool
+isBigDataBlock s = cond (ltb (length s) 6) false (cond (eqb (byteAt s 4) 100) (eqb (byteAt s 5) 98) false)

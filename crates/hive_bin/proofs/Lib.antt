@@ -1,0 +1,6 @@
+-- What several proofs use, and the proofs of the crates above cite.
+pub mod Signs
+pub mod Rows
+pub mod Sums
+pub mod Pieces
+pub mod Image

@@ -20,7 +20,7 @@ use Rattle.hive_bin.proofs.Pieces.{bins-fill}
 later-fills : (k n : ℕ) (a : Paper BinTotals) → Fills 0 n a → Fills k n (later k a)
 unfolding later
 later-fills k n (success t) h = h
-later-fills k n (refused t) h = (omega arith, omega arith)
+later-fills k n (refused t) h = (omega arith, omega arith, h .2)
 
 module _ (s : List ℕ) (base size : ℕ) where
   -- "Base plus size past the image"

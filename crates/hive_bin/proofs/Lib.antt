@@ -4,3 +4,6 @@ pub mod Rows
 pub mod Sums
 pub mod Pieces
 pub mod Image
+pub mod Totals
+pub mod Papers
+pub mod Examples

@@ -79,8 +79,11 @@ cell-fills z at h = go (negative z)
 
 pub cells-whole : (b : List ℕ) → Whole (cellRow b)
 unfolding cellRow
-cells-whole b at left e =
-    rw (cell-adds b at) (cell-fills (sizeWord b at) at (cell-facts (sizeWord b at) left e .0))
+cells-whole b =
+    record {
+      number = (omega arith, omega arith);
+      pieces = λ at left e. rw (cell-adds b at) (cell-fills (sizeWord b at) at (cell-facts (sizeWord b at) left e .0));
+    }
 
 pub cells-fill : (b : List ℕ) (at left : ℕ) → Fills at left (answerOf (row (cellRow b) at left))
 cells-fill b = row-fills (cellRow b) (cells-sound b) (cells-whole b)
@@ -133,12 +136,15 @@ pub bin-adds : (b : List ℕ) (at : ℕ) → answerOf (binRow b .piece at) ≡ p
 unfolding binRow answerOf sumOver
 bin-adds b at = answer-join _ _
 
-pub bins-whole : (b : List ℕ) → Whole (binRow b)
-unfolding binRow
-bins-whole b at left e =
+bin-fills : (b : List ℕ) (at left : ℕ) → goodBin b at left ≡ true → Fills at (word32 b (at + 8)) (answerOf (binRow b .piece at))
+bin-fills b at left e =
     let k = bin-facts b at left e in
     rw (bin-adds b at)
     (plus-fills at 32 (word32 b (at + 8) - 32) (word32 b (at + 8)) _ _ (omega arith) (omega arith, omega arith) (cells-fill b _ _))
+
+pub bins-whole : (b : List ℕ) → Whole (binRow b)
+unfolding binRow
+bins-whole b = record { number = (omega arith, omega arith); pieces = bin-fills b }
 
 pub bins-fill : (b : List ℕ) (at left : ℕ) → Fills at left (answerOf (row (binRow b) at left))
 bins-fill b = row-fills (binRow b) (bins-sound b) (bins-whole b)

@@ -8,6 +8,7 @@ use native.Mathlib.Omega.{arith}
 use lib.Dec.{eqb}
 use lib.IntN.{ℤ}
 use borrow.Author.Tests.{eqb-true, eqb-false}
+use Rattle.words.specs.Refusals.{BAD-BIN, BAD-CELL}
 use Rattle.words.specs.Paper.{Told, Paper, success, refused, by}
 use Rattle.hive_bin.specs.declared.BinTotals.{BinTotals}
 use Rattle.hive_bin.specs.Walk.{Found, Walk, found, fault, join, nothing, Row, rowGo, row, moved, shift}
@@ -69,22 +70,26 @@ answer-shift k (found n cs) = simp sum-moved
 answer-shift k (fault n p) = refl
 
 -- ---- an answer accounts for each of `left` bytes from `at` on: those of the cells, and 32 for each bin. Its pieces are no more than the
--- bytes, and a fault lies among them
+-- bytes, and a fault lies among them and is one of a bin or a cell
+
+abbrev pub Fault : ℕ → Type 0
+Fault n = (BAD-BIN ≤ n) × (n ≤ BAD-CELL)
 
 abbrev pub Fills : ℕ → ℕ → Paper BinTotals → Type 0
 Fills at left (success t) =
     (t .«allocated_bytes» + t .«free_bytes» + 32 * t .bins ≡ left) × (t .bins + t .«allocated_cells» + t .«free_cells» ≤ left)
-Fills at left (refused t) = (at ≤ t .position) × (t .position < at + left)
+Fills at left (refused t) = (at ≤ t .position) × (t .position < at + left) × Fault (t .number)
 
 pub plus-fills : (at m n left : ℕ) (v w : Paper BinTotals) → m + n ≡ left → Fills at m v → Fills (at + m) n w → Fills at left (plus v w)
 unfolding plus
-plus-fills at m n left (refused t) w e h l = (h .0, omega arith)
+plus-fills at m n left (refused t) w e h l = (h .0, omega arith, h .2)
 plus-fills at m n left (success t) (success u) e h l = (omega arith, omega arith)
-plus-fills at m n left (success t) (refused u) e h l = (omega arith, omega arith)
+plus-fills at m n left (success t) (refused u) e h l = (omega arith, omega arith, l .2)
 
 -- each piece of a row accounts for its own bytes
-abbrev pub Whole : Row → Type 0
-Whole r = (at left : ℕ) → r .good at left ≡ true → Fills at (r .size at) (answerOf (r .piece at))
+pub record Whole (r : Row) : Type 0 where
+  pub number : Fault (r .number)
+  pub pieces : (at left : ℕ) → r .good at left ≡ true → Fills at (r .size at) (answerOf (r .piece at))
 
 module _ (r : Row) (sound : Sound r) (whole : Whole r) where
   go-fills : (f at left : ℕ) → left ≤ f → Fills at left (answerOf (rowGo r f at left))
@@ -102,8 +107,8 @@ module _ (r : Row) (sound : Sound r) (whole : Whole r) where
       turn true g hz hg k = let e = eqb-true left 0 hz in (omega arith, omega arith)
       turn false true hz hg k =
           rw (answer-join (r .piece at) rest)
-          (plus-fills at (r .size at) (left - r .size at) left _ _ (omega (arith, sound _ _ hg)) (whole at left hg) (k (omega (arith, sound _ _ hg))))
-      turn false false hz hg k = let e = eqb-false left 0 hz in (omega arith, omega arith)
+          (plus-fills at (r .size at) (left - r .size at) left _ _ (omega (arith, sound _ _ hg)) (whole .pieces at left hg) (k (omega (arith, sound _ _ hg))))
+      turn false false hz hg k = let e = eqb-false left 0 hz in (omega arith, omega arith, whole .number)
 
   pub row-fills : (at left : ℕ) → Fills at left (answerOf (row r at left))
   unfolding row
@@ -154,7 +159,7 @@ module _ {r : Row} {at left here rest : ℕ} {t : BinTotals} (so : SoFar r at le
       piece-fills : Fills here n (success u)
       piece-fills =
           let k = some-size r sound here rest n e h in
-          subst (Fills here n) p (subst (λ (m : ℕ). Fills here m (answerOf (r .piece here))) (k .1) (filled here rest (k .0)))
+          subst (Fills here n) p (subst (λ (m : ℕ). Fills here m (answerOf (r .piece here))) (k .1) (filled .pieces here rest (k .0)))
 
       -- a piece, and on to the next
       pub room : left < 2 ^ 64 → Room t u

@@ -100,7 +100,16 @@ fn two_bins(image: &mut [u8], base: u32) {
 }
 
 // The two bins with two words changed, in an image of so many bytes.
-fn both(label: &[u8], at: u32, word: u32, at_2: u32, word_2: u32, length: usize, base: u32, size: u32) {
+fn both(
+    label: &[u8],
+    at: u32,
+    word: u32,
+    at_2: u32,
+    word_2: u32,
+    length: usize,
+    base: u32,
+    size: u32,
+) {
     let mut image = [0u8; 16384];
     two_bins(&mut image, base);
     set(&mut image, base, at, word);
@@ -110,7 +119,7 @@ fn both(label: &[u8], at: u32, word: u32, at_2: u32, word_2: u32, length: usize,
     }
 }
 
-// The same with one word changed, in an image that ends where the bins do, at base 0; and with none.
+// The same at base 0, in an image that ends where the bins do, with one word changed, and with two.
 fn one(label: &[u8], at: u32, word: u32) {
     both(label, at, word, NOWHERE, 0, 8192, 0, 8192);
 }
@@ -119,6 +128,13 @@ fn two(label: &[u8], at: u32, word: u32, at_2: u32, word_2: u32) {
     both(label, at, word, at_2, word_2, 8192, 0, 8192);
 }
 
+// At another base, with one word changed.
+fn based(label: &[u8], base: u32, at: u32, word: u32) {
+    let end = (base as usize) + 8192;
+    both(label, at, word, NOWHERE, 0, end, base, 8192);
+}
+
+// With none changed, in an image of so many bytes, at a base, with a bins size.
 fn none(label: &[u8], length: usize, base: u32, size: u32) {
     both(label, NOWHERE, 0, NOWHERE, 0, length, base, size);
 }
@@ -168,6 +184,9 @@ fn headers() {
     one(b"second own offset 0", 4100, 0);
     one(b"second own offset 4095", 4100, 4095);
     one(b"second own offset 4097", 4100, 4097);
+}
+
+fn bin_sizes() {
     one(b"bin size 0", 8, 0);
     one(b"bin size 32", 8, 32);
     one(b"bin size 4095", 8, 4095);
@@ -176,6 +195,9 @@ fn headers() {
     one(b"bin size 12288, past the rest", 8, 12288);
     one(b"bin size 2147483648", 8, 2147483648);
     one(b"bin size -4096", 8, 4294963200);
+}
+
+fn large_bins() {
     one(b"bin size 8192, its cells not", 8, 8192);
     two(b"bin size 8192, its cells too", 8, 8192, 48, 8144);
     one(b"second bin size 0", 4104, 0);
@@ -189,6 +211,9 @@ fn cells() {
     one(b"cell 8, then 0", 32, 8);
     two(b"cell 8, then 4056", 32, 8, 40, 4056);
     two(b"cell -8, then 4056", 32, MINUS_8, 40, 4056);
+}
+
+fn odd_cells() {
     one(b"cell 12", 32, 12);
     one(b"cell -12", 32, MINUS_12);
     one(b"cell 16", 32, 16);
@@ -197,11 +222,17 @@ fn cells() {
     one(b"cell -2147483640", 32, 2147483656);
     one(b"cell 2147483640", 32, 2147483640);
     one(b"cell 2147483647", 32, 2147483647);
+}
+
+fn end_cells() {
     one(b"cell 4056, then 0", 32, 4056);
     one(b"cell 4064, to the end", 32, 4064);
     one(b"cell -4064, to the end", 32, MINUS_4064);
     one(b"cell 4072, past the end by 8", 32, 4072);
     one(b"cell -4072, past the end by 8", 32, MINUS_4072);
+}
+
+fn last_cells() {
     one(b"last cell 0", 48, 4040);
     two(b"last cell 8", 48, 4040, 4088, 8);
     two(b"last cell -8", 48, 4040, 4088, MINUS_8);
@@ -220,14 +251,14 @@ fn order() {
 
 fn bases() {
     none(b"base 4096", 12288, 4096, 8192);
-    none(b"base 4096, one byte more than the image", 12287, 4096, 8192);
-    none(b"base 7", 8199, 7, 8192);
-    both(b"base 4096, signature", 0, 0, NOWHERE, 0, 12288, 4096, 8192);
-    both(b"base 4096, second own offset from the image's start", 4100, 8192, NOWHERE, 0, 12288, 4096, 8192);
-    both(b"base 4096, first cell", 32, 4, NOWHERE, 0, 12288, 4096, 8192);
-    both(b"base 4096, second bin's cell", 4128, 4072, NOWHERE, 0, 12288, 4096, 8192);
-    both(b"base 7, second cell", 48, 4056, NOWHERE, 0, 8199, 7, 8192);
+    none(b"base 4096, one byte short", 12287, 4096, 8192);
     none(b"base 4096, a bin and 31 bytes", 12288, 4096, 4127);
+    based(b"base 4096, signature", 4096, 0, 0);
+    based(b"base 4096, own offset from the image", 4096, 4, 4096);
+    based(b"base 4096, first cell", 4096, 32, 4);
+    based(b"base 4096, second bin's cell", 4096, 4128, 4072);
+    none(b"base 7", 8199, 7, 8192);
+    based(b"base 7, second cell", 7, 48, 4056);
 }
 
 fn main() {
@@ -235,7 +266,12 @@ fn main() {
     lengths();
     short_rests();
     headers();
+    bin_sizes();
+    large_bins();
     cells();
+    odd_cells();
+    end_cells();
+    last_cells();
     order();
     bases();
 }

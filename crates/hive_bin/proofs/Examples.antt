@@ -35,17 +35,25 @@ pub signature : word32 (104 ∷ 98 ∷ 105 ∷ 110 ∷ []) 0 ≡ hbin
 unfolding little
 signature = refl
 
-pub cells-found : binsIn listing ≡ found 1 (record { place = 32; size = negsuc 87 } ∷ record { place = 120; size = negsuc 23 } ∷ record { place = 144; size = negsuc 87 } ∷ record { place = 232; size = negsuc 87 } ∷ record { place = 320; size = pos 3776 } ∷ [])
+pub cells-found : binsIn listing ≡ found 1
+    (record { place = 32; size = negsuc 87 }
+    ∷ record { place = 120; size = negsuc 23 }
+    ∷ record { place = 144; size = negsuc 87 }
+    ∷ record { place = 232; size = negsuc 87 }
+    ∷ record { place = 320; size = pos 3776 }
+    ∷ [])
 unfolding binsIn row rowGo binRow goodBin cellRow goodCell join little signed
 cells-found = refl
 
 -- "bins 1 4 1 288 3776": the bins of the example, behind its base block
-pub example : binsOf (replicate 4096 0 ++ listing) 4096 4096 ≡ success (record { bins = 1; «allocated_cells» = 4; «free_cells» = 1; «allocated_bytes» = 288; «free_bytes» = 3776 })
+pub example : binsOf (replicate 4096 0 ++ listing) 4096 4096
+    ≡ success (record { bins = 1; «allocated_cells» = 4; «free_cells» = 1; «allocated_bytes» = 288; «free_bytes» = 3776 })
 unfolding binsOf binsAt shift binsIn row rowGo binRow goodBin cellRow goodCell join little signed answerOf sumOver negative allocatedOne freeOne allocatedSize freeSize
 example = refl
 
 -- "A bins size of 0 then succeeds with no bin", also where the base is the image's end; past it, 8 and never 2
-pub no-bins : binsOf (replicate 16 0) 16 0 ≡ success (record { bins = 0; «allocated_cells» = 0; «free_cells» = 0; «allocated_bytes» = 0; «free_bytes» = 0 })
+pub no-bins : binsOf (replicate 16 0) 16 0
+    ≡ success (record { bins = 0; «allocated_cells» = 0; «free_cells» = 0; «allocated_bytes» = 0; «free_bytes» = 0 })
 unfolding binsOf binsAt shift binsIn row rowGo answerOf sumOver
 no-bins = refl
 

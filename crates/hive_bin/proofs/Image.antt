@@ -1,12 +1,12 @@
 -- Laws of the bins of an image: what is read of the bins' own bytes, with the base added to each place. Assumes nothing.
 use Prim.Native.Nat.{ℕ, _+_, _≤_, _<_}
-use mathlib.Core.Path.{_≡_, refl, sym, ap, subst, _∙_}
+use mathlib.Core.Path.{_≡_, sym, ap, subst, _∙_}
 use mathlib.Core.List.{List}
 use native.Mathlib.Omega.{arith}
 use lib.ListN.{length, take, drop, length-take, length-drop}
 use borrow.Author.Tests.{lt-ltb, le-ltb}
 use Rattle.words.specs.Refusals.{CUT-SHORT}
-use Rattle.words.specs.Paper.{Paper, success, refused, by, told}
+use Rattle.words.specs.Paper.{Paper, success, refused, by}
 use Rattle.words.specs.declared.Refusal.{Refusal}
 use Rattle.hive_bin.specs.declared.BinTotals.{BinTotals}
 use Rattle.hive_bin.specs.declared.BinsAnswer.{BinsAnswer}

@@ -1,7 +1,7 @@
 -- Laws of cells and of bins. Assumes nothing.
 use Prim.Native.Nat.{ℕ, zero, suc, _+_, _-_, _*_, _%_, _^_, _≤_, _<_}
 use mathlib.Core.Path.{_≡_, refl, sym, ap, subst, _∙_}
-use mathlib.Core.List.{List, []}
+use mathlib.Core.List.{List}
 use mathlib.Core.Bool.{Bool, true, false, cond, _&&_, false≢true}
 use native.Mathlib.Nat.{add-zero}
 use native.Mathlib.Omega.{arith}
@@ -17,7 +17,7 @@ use Rattle.hive_bin.specs.declared.BinTotals.{BinTotals}
 use Rattle.hive_bin.specs.declared.BinsAnswer.{BinsAnswer}
 use Rattle.hive_bin.specs.declared.BinsAnswer.the-variants.{Totals, Refused}
 use Rattle.hive_bin.specs.Answers.{binsPaper}
-use Rattle.hive_bin.specs.Walk.{Walk, found, fault, join, row, sizeWord, goodCell, cellRow, hbin, goodBin, binRow, cellSize, binSize}
+use Rattle.hive_bin.specs.Walk.{row, sizeWord, goodCell, cellRow, hbin, goodBin, binRow, cellSize, binSize}
 use Rattle.hive_bin.specs.Totals.{negative, allocatedOne, freeOne, allocatedSize, freeSize, sumOver, answerOf, oneBin, cellTotals, together, Room}
 use Rattle.hive_bin.proofs.Rows.{Sound, sizeAt, some-size}
 use Rattle.hive_bin.proofs.Sums.{plus, answer-join, Fills, plus-fills, Whole, row-fills}
@@ -101,7 +101,8 @@ module _ (b : List ℕ) (at : ℕ) {z : ℤ} (held : mag z < 2 ^ 31) (word : z �
 
 module _ (b : List ℕ) (at left : ℕ) where
   pub bin-facts : goodBin b at left ≡ true
-      → (32 ≤ left) × (word32 b at ≡ hbin) × (word32 b (at + 4) ≡ at) × (0 < word32 b (at + 8)) × (word32 b (at + 8) % 4096 ≡ 0) × (word32 b (at + 8) ≤ left)
+      → (32 ≤ left) × (word32 b at ≡ hbin) × (word32 b (at + 4) ≡ at)
+      × (0 < word32 b (at + 8)) × (word32 b (at + 8) % 4096 ≡ 0) × (word32 b (at + 8) ≤ left)
   unfolding goodBin
   bin-facts h =
       let n = word32 b (at + 8) in
@@ -121,18 +122,23 @@ module _ (b : List ℕ) (at left : ℕ) where
   unfolding binSize
   no-bin h = zero-is (goodBin b at left) (word32 b (at + 8)) h
 
-  pub a-bin : (n : ℕ) → n ≡ word32 b (at + 8) → 32 ≤ left → word32 b at ≡ hbin → word32 b (at + 4) ≡ at → n % 4096 ≡ 0 → n ≤ left → n ≡ binSize b at left
+  pub a-bin : (n : ℕ) → n ≡ word32 b (at + 8) → 32 ≤ left → word32 b at ≡ hbin → word32 b (at + 4) ≡ at → n % 4096 ≡ 0 → n ≤ left
+      → n ≡ binSize b at left
   unfolding binSize goodBin
   a-bin n e h₁ h₂ h₃ h₄ h₅ =
       size-is (goodBin b at left) (word32 b (at + 8)) n e
-      (λ h. simp (le-leb _ _ h₁, eq-eqb _ _ h₂, eq-eqb _ _ h₃, lt-ltb 0 (word32 b (at + 8)) (omega arith), eq-eqb (word32 b (at + 8) % 4096) 0 (rw e at h₄), le-leb (word32 b (at + 8)) left (omega arith)))
+      (λ h.
+      let h₆ : 0 < word32 b (at + 8) = omega arith in
+      let h₇ : word32 b (at + 8) ≤ left = omega arith in
+      simp (le-leb _ _ h₁, eq-eqb _ _ h₂, eq-eqb _ _ h₃, lt-ltb _ _ h₆, eq-eqb (word32 b (at + 8) % 4096) 0 (rw e at h₄), le-leb _ _ h₇))
 
 pub bins-sound : (b : List ℕ) → Sound (binRow b)
 unfolding binRow
 bins-sound b at left e = let k = bin-facts b at left e in (k .3, k .5)
 
 -- what a bin adds: itself, and its cells
-pub bin-adds : (b : List ℕ) (at : ℕ) → answerOf (binRow b .piece at) ≡ plus (success oneBin) (answerOf (row (cellRow b) (at + 32) (word32 b (at + 8) - 32)))
+pub bin-adds : (b : List ℕ) (at : ℕ)
+    → answerOf (binRow b .piece at) ≡ plus (success oneBin) (answerOf (row (cellRow b) (at + 32) (word32 b (at + 8) - 32)))
 unfolding binRow answerOf sumOver
 bin-adds b at = answer-join _ _
 

@@ -16,7 +16,8 @@ abbrev pub sizeAt : Row → ℕ → ℕ → ℕ
 sizeAt r at left = cond (r .good at left) (r .size at) 0
 
 -- one turn with either of two rests
-same-rest : (b : Bool) (left : ℕ) (v q x y : Walk) → (b ≡ true → x ≡ y) → cond (eqb left 0) nothing (cond b (join v x) q) ≡ cond (eqb left 0) nothing (cond b (join v y) q)
+same-rest : (b : Bool) (left : ℕ) (v q x y : Walk) → (b ≡ true → x ≡ y)
+    → cond (eqb left 0) nothing (cond b (join v x) q) ≡ cond (eqb left 0) nothing (cond b (join v y) q)
 same-rest true left v q x y h = rw (h refl)
 same-rest false left v q x y h = refl
 

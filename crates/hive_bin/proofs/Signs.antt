@@ -9,7 +9,6 @@ use mir.Syntax.{w32}
 use mir.Val.{SFits}
 use borrow.Author.Tests.{ltb-true}
 use Rattle.words.proofs.Signed.{read, back}
-use Rattle.hive_bin.specs.declared.BinTotals.{BinTotals}
 use Rattle.hive_bin.specs.Totals.{negative, allocatedOne, freeOne, allocatedSize, freeSize, cellTotals}
 
 module _ (z : ℤ) (held : SFits w32 z) where
@@ -33,10 +32,12 @@ module _ (z : ℤ) (held : SFits w32 z) where
       go (negsuc n) h = absurd (true≢false h)
 
 module _ (z : ℤ) (n : ℕ) (size : n ≡ natAbs z) where
-  pub allocated-totals : negative z ≡ true → record { bins = 0; «allocated_cells» = 1; «free_cells» = 0; «allocated_bytes» = n; «free_bytes» = 0 } ≡ cellTotals z
+  pub allocated-totals : negative z ≡ true
+      → record { bins = 0; «allocated_cells» = 1; «free_cells» = 0; «allocated_bytes» = n; «free_bytes» = 0 } ≡ cellTotals z
   unfolding cellTotals allocatedOne freeOne allocatedSize freeSize
   allocated-totals e = simp (e, size)
 
-  pub free-totals : negative z ≡ false → record { bins = 0; «allocated_cells» = 0; «free_cells» = 1; «allocated_bytes» = 0; «free_bytes» = n } ≡ cellTotals z
+  pub free-totals : negative z ≡ false
+      → record { bins = 0; «allocated_cells» = 0; «free_cells» = 1; «allocated_bytes» = 0; «free_bytes» = n } ≡ cellTotals z
   unfolding cellTotals allocatedOne freeOne allocatedSize freeSize
   free-totals e = simp (e, size)

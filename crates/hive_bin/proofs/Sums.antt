@@ -3,7 +3,7 @@ use Prim.Native.Nat.{ℕ, zero, suc, _+_, _-_, _*_, _^_, _≤_, _<_}
 use mathlib.Core.Path.{_≡_, refl, sym, ap, subst, _∙_}
 use mathlib.Core.List.{List, [], _∷_, _++_, map}
 use mathlib.Core.Bool.{Bool, true, false, cond}
-use native.Mathlib.Nat.{zero-add, add-zero, add-assoc}
+use native.Mathlib.Nat.{zero-add, add-assoc}
 use native.Mathlib.Omega.{arith}
 use lib.Dec.{eqb}
 use lib.IntN.{ℤ}
@@ -141,7 +141,8 @@ module _ {r : Row} {at left here rest : ℕ} {t : BinTotals} (so : SoFar r at le
     pub fits : n ≤ rest
     fits = some-size r sound here rest n e h .2
 
-    pub split : {a : Paper BinTotals} → answerOf (r .piece here) ≡ a → answerOf (row r at left) ≡ plus (success t) (plus a (answerOf (row r (here + n) (rest - n))))
+    split : {a : Paper BinTotals} → answerOf (r .piece here) ≡ a
+        → answerOf (row r at left) ≡ plus (success t) (plus a (answerOf (row r (here + n) (rest - n))))
     split {a} p =
         let k = some-size r sound here rest n e h in
         so .whole

@@ -8,11 +8,11 @@ use lib.ListN.{length}
 use lib.Dec.{ltb}
 use borrow.Author.Tests.{ltb-true, ltb-false}
 use Rattle.words.specs.Refusals.{OUTSIDE, CUT-SHORT, BAD-BIN, BAD-CELL}
-use Rattle.words.specs.Paper.{Told, Paper, success, refused, by}
+use Rattle.words.specs.Paper.{Told, success, refused, by}
 use Rattle.words.proofs.Papers.{success-refused, same-told}
 use Rattle.hive_bin.specs.declared.BinTotals.{BinTotals}
 use Rattle.hive_bin.specs.declared.BinsAnswer.{BinsAnswer}
-use Rattle.hive_bin.specs.declared.BinsAnswer.the-variants.{Totals, Refused}
+use Rattle.hive_bin.specs.declared.BinsAnswer.the-variants.{Totals}
 use Rattle.hive_bin.specs.Answers.{binsPaper}
 use Rattle.hive_bin.specs.Walk.{Found, found, binsAt}
 use Rattle.hive_bin.specs.Totals.{allocatedSize, freeSize, sumOver, answerOf, binsOf}

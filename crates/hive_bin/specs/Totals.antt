@@ -1,4 +1,4 @@
--- Document 01, "Bins and cells": "Answers: bins, allocated and free cells and bytes", "each total defined as a sum over size words".
+-- Document 01, "Bins and cells": the answers, made of what was found.
 use Prim.Native.Nat.{ℕ, _+_, _<_, _^_}
 use mathlib.Core.List.{List, [], _∷_}
 use mathlib.Core.Bool.{Bool, true, false, cond}
@@ -25,12 +25,12 @@ allocatedSize z = cond (negative z) (natAbs z) 0
 unfoldable pub freeSize : ℤ → ℕ
 freeSize z = cond (negative z) 0 (natAbs z)
 
--- a sum over the size words of cells
+-- "each total defined as a sum over size words"
 unfoldable pub sumOver : (ℤ → ℕ) → List Found → ℕ
 sumOver f [] = 0
 sumOver f (c ∷ cs) = f (c .size) + sumOver f cs
 
--- the totals of what is found, or its refusal
+-- "Answers: bins, allocated and free cells and bytes"; or the refusal
 unfoldable pub answerOf : Walk → Paper BinTotals
 answerOf (found n cs) =
     success
@@ -47,7 +47,7 @@ answerOf (fault n p) = refused (by n p)
 unfoldable pub binsOf : List ℕ → ℕ → ℕ → Paper BinTotals
 binsOf s base size = answerOf (binsAt s base size)
 
--- ---- totals in the code
+-- ---- what the code adds up
 
 abbrev pub noTotals : BinTotals
 noTotals = record { bins = 0; «allocated_cells» = 0; «free_cells» = 0; «allocated_bytes» = 0; «free_bytes» = 0 }
@@ -66,7 +66,7 @@ cellTotals z =
       «free_bytes» = freeSize z;
     }
 
--- two stretches together
+-- those of two stretches together
 abbrev pub together : BinTotals → BinTotals → BinTotals
 together a b =
     record {

@@ -1,4 +1,4 @@
--- Document 01, "Bins and cells": what stands in the bins. All but the last definition speak of the bins' own bytes, with places
+-- Document 01, "Bins and cells": what stands in the bins. Up to the part on the image, all is said of the bins' own bytes, with places
 -- that count from the first of them.
 use Prim.Native.Nat.{ℕ, zero, suc, _+_, _-_, _%_}
 use mathlib.Core.List.{List, [], _∷_, _++_, map}
@@ -9,17 +9,17 @@ use lib.IntN.{ℤ, natAbs}
 use Rattle.words.specs.Words.{word32, signed}
 use Rattle.words.specs.Refusals.{CUT-SHORT, BAD-BIN, BAD-CELL}
 
--- a cell: its place, and its size word
+-- a cell that was found: its place, and its size word ("size 0 (signed)")
 pub record Found : Type 0 where
   pub place : ℕ
   pub size : ℤ
 
--- what is found: the number of bins and the cells, in order; or the number of the refusal and the place of the bin or cell at fault
+-- what is found: the number of bins and the cells, in order; or "its number, the position of the .. bin, cell .. at fault"
 pub data Walk : Type 0 where
   found : ℕ → List Found → Walk
   fault : ℕ → ℕ → Walk
 
--- one stretch after another: the first fault decides
+-- one stretch of bytes after another, "judged .. before the next": the first fault decides
 unfoldable pub join : Walk → Walk → Walk
 join (fault n p) w = fault n p
 join (found b cs) (found c ds) = found (b + c) (cs ++ ds)
@@ -28,7 +28,7 @@ join (found b cs) (fault n p) = fault n p
 abbrev pub nothing : Walk
 nothing = found 0 []
 
--- ---- a row of pieces, each with a size of its own, that is to fill a stretch of bytes
+-- ---- pieces that "fill .. exactly" a stretch of bytes, each with a size of its own: the bins do, and the cells of a bin
 
 pub record Row : Type 0 where
   -- whether a piece stands at a place with so many bytes to the end of the stretch
@@ -53,6 +53,7 @@ row r at left = rowGo r left at left
 
 -- ---- cells
 
+-- a cell's size word, "signed"
 abbrev pub sizeWord : List ℕ → ℕ → ℤ
 sizeWord b at = signed (word32 b at)
 
@@ -103,7 +104,7 @@ binsIn b = row (binRow b) 0 (length b)
 
 -- ---- the bins of an image
 
--- the same with places that count from k bytes further back
+-- "counted from the start of the image": places that count from k bytes further back
 abbrev pub moved : ℕ → Found → Found
 moved k c = record { place = k + c .place; size = c .size }
 
@@ -111,8 +112,8 @@ unfoldable pub shift : ℕ → Walk → Walk
 shift k (found n cs) = found n (map (moved k) cs)
 shift k (fault n p) = fault n (k + p)
 
--- "Bins fill the bins size exactly from the base. Base plus size past the image: 8, never 2"; a position is "counted from the start
--- of the image; .. the base for 8 on the bins"
+-- "Bins fill the bins size exactly from the base. Base plus size past the image: 8, never 2", and the position is "the base for 8 on
+-- the bins"
 unfoldable pub binsAt : List ℕ → ℕ → ℕ → Walk
 binsAt s base size = cond (ltb (length s) (base + size)) (fault CUT-SHORT base) (shift base (binsIn (take size (drop base s))))
 

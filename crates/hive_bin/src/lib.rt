@@ -26,6 +26,7 @@ const HBIN: u32 = 0x6E69_6268;
 
 const HEADER: usize = 32;
 
+// The totals of no bytes.
 fn no_totals() -> BinTotals
     ensures { λ r. ⌜ r ≡ noTotals ⌝ }
 {
@@ -38,7 +39,7 @@ fn no_totals() -> BinTotals
     }
 }
 
-// A bin, without its cells.
+// Those of a bin without its cells.
 fn one_bin() -> BinTotals
     ensures { λ r. ⌜ r ≡ oneBin ⌝ }
 {
@@ -51,7 +52,7 @@ fn one_bin() -> BinTotals
     }
 }
 
-// A cell, by its size word: a negative one is allocated.
+// Those of a cell, by its size word: where that is negative the cell is allocated.
 fn cell_totals(word: i32) -> BinTotals
     ensures { λ r. ⌜ r ≡ cellTotals word ⌝ }
 {
@@ -75,6 +76,7 @@ fn cell_totals(word: i32) -> BinTotals
     }
 }
 
+// Those of two stretches of bytes together.
 fn sum(a: BinTotals, b: BinTotals) -> BinTotals
     requires { ⌜ Room a b ⌝ }
     ensures { λ r. ⌜ r ≡ together a b ⌝ }
@@ -88,7 +90,7 @@ fn sum(a: BinTotals, b: BinTotals) -> BinTotals
     }
 }
 
-// The size of a cell by its size word, with `left` bytes to the end of its bin; 0 where it is no cell's.
+// The size of a cell by its size word, with `left` bytes to the end of its bin; 0 where the word is no cell's, as 0 itself.
 fn cell_size(word: i32, left: usize) -> usize
     ensures { λ r. ⌜ r ≡ cellSize word left ⌝ }
 {
@@ -126,7 +128,7 @@ fn check_cells(bins: &[u8], at: usize, left: usize) -> BinsAnswer
     BinsAnswer::Totals(totals)
 }
 
-// The size of the bin at a place, with `left` bytes to the end of the bins; 0 where no bin stands there.
+// The size of the bin at a place, with `left` bytes to the end of the bins; 0 where no bin stands there, also where its size is 0.
 fn bin_size(bins: &[u8], at: usize, left: usize) -> usize
     requires { ⌜ at + left ≤ length (now bins) ⌝ }
     ensures { λ r. ⌜ r ≡ binSize (now (bins .entry)) at left ⌝ }

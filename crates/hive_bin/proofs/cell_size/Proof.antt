@@ -15,13 +15,22 @@ cast-size : tie.Need-cast-size
 cast-size c = search needs
 
 returns : tie.Need-returns
-returns c = let z = size-read (c .before .before .args .word) (c .before .before .fits .word) (c .before .magnitude .ensures) in no-cell _ _ (λ e. let f = cell-facts _ _ e in omega arith)
+returns c =
+    let a = c .before .before in
+    let size = size-read (a .args .word) (a .fits .word) (c .before .magnitude .ensures) in
+    no-cell _ _ (λ e. let f = cell-facts _ _ e in omega arith)
 
 returns-2 : tie.Need-returns-2
-returns-2 c = let z = size-read (c .before .before .before .args .word) (c .before .before .before .fits .word) (c .before .before .magnitude .ensures) in no-cell _ _ (λ e. let f = cell-facts _ _ e in omega arith)
+returns-2 c =
+    let a = c .before .before .before in
+    let size = size-read (a .args .word) (a .fits .word) (c .before .before .magnitude .ensures) in
+    no-cell _ _ (λ e. let f = cell-facts _ _ e in omega arith)
 
 returns-3 : tie.Need-returns-3
-returns-3 c = a-cell _ _ _ (size-read (c .before .before .before .args .word) (c .before .before .before .fits .word) (c .before .before .magnitude .ensures)) (omega arith) (omega arith)
+returns-3 c =
+    let a = c .before .before .before in
+    let size = size-read (a .args .word) (a .fits .word) (c .before .before .magnitude .ensures) in
+    a-cell _ _ _ size (omega arith) (omega arith)
 
 pub cell-size-spec : {M : Type 1} → statement M
 cell-size-spec = tie.close (tie.spec magnitude-requires cast-size returns returns-2 returns-3)

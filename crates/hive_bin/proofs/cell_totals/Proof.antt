@@ -13,10 +13,16 @@ cast-size : tie.Need-cast-size
 cast-size c = search needs
 
 returns : tie.Need-returns
-returns c = let a = c .before .before in allocated-totals (a .args .word) _ (size-read (c .before .before .args .word) (c .before .before .fits .word) (c .before .magnitude .ensures)) (negative-read (a .args .word) (a .fits .word) (c .if1 .taken))
+returns c =
+    let a = c .before .before in
+    let size = size-read (a .args .word) (a .fits .word) (c .before .magnitude .ensures) in
+    allocated-totals (a .args .word) _ size (negative-read (a .args .word) (a .fits .word) (c .if1 .taken))
 
 returns-2 : tie.Need-returns-2
-returns-2 c = let a = c .before .before in free-totals (a .args .word) _ (size-read (c .before .before .args .word) (c .before .before .fits .word) (c .before .magnitude .ensures)) (positive-read (a .args .word) (a .fits .word) (c .if1 .left))
+returns-2 c =
+    let a = c .before .before in
+    let size = size-read (a .args .word) (a .fits .word) (c .before .magnitude .ensures) in
+    free-totals (a .args .word) _ size (positive-read (a .args .word) (a .fits .word) (c .if1 .left))
 
 pub cell-totals-spec : {M : Type 1} → statement M
 cell-totals-spec = tie.close (tie.spec magnitude-requires cast-size returns returns-2)

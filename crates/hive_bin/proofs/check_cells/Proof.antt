@@ -34,25 +34,54 @@ cell-size-requires c κs = search needs
 
 returns : tie.Need-returns Inv-loop μ-loop
 unfolding cellRow
-returns c = stops (c .before .before .before .before .loop .inv) (cells-sound _) (c .before .before .before .loop-test .taken) (cell-size-held _ _ (c .before .before .i32-at .ok) (c .before .before .i32-at .ensures) _ (c .before .cell-size .ensures) ∙ c .if1 .taken)
+returns c =
+    let w = c .before .before in
+    let so = w .before .before .loop .inv in
+    let size = cell-size-held _ _ (w .i32-at .ok) (w .i32-at .ensures) _ (c .before .cell-size .ensures) in
+    stops so (cells-sound _) (w .before .loop-test .taken) (size ∙ c .if1 .taken)
 
 cell-totals-requires : tie.Need-cell-totals-requires Inv-loop μ-loop
 cell-totals-requires c κs = search needs
 
 sum-requires : tie.Need-sum-requires Inv-loop μ-loop
-sum-requires c κs = room (c .before .before .before .before .before .loop .inv) (cells-sound _) (cell-size-held _ _ (c .before .before .before .i32-at .ok) (c .before .before .before .i32-at .ensures) _ (c .before .before .cell-size .ensures)) (omega arith) (cells-whole _) (cell-adds-held _ _ (c .before .before .before .i32-at .ok) (c .before .before .before .i32-at .ensures) (c .cell-totals .ensures)) (omega arith)
+sum-requires c κs =
+    let w = c .before .before .before in
+    let so = w .before .before .loop .inv in
+    let size = cell-size-held _ _ (w .i32-at .ok) (w .i32-at .ensures) _ (c .before .before .cell-size .ensures) in
+    let adds = cell-adds-held _ _ (w .i32-at .ok) (w .i32-at .ensures) (c .cell-totals .ensures) in
+    room so (cells-sound _) size (omega arith) (cells-whole _) adds (omega arith)
 
 add-here : tie.Need-add-here Inv-loop μ-loop
-add-here c = let f = fits (c .before .before .before .before .before .before .loop .inv) (cells-sound _) (cell-size-held _ _ (c .before .before .before .before .i32-at .ok) (c .before .before .before .before .i32-at .ensures) _ (c .before .before .before .cell-size .ensures)) (omega arith) in omega arith
+add-here c =
+    let w = c .before .before .before .before in
+    let so = w .before .before .loop .inv in
+    let size = cell-size-held _ _ (w .i32-at .ok) (w .i32-at .ensures) _ (c .before .before .before .cell-size .ensures) in
+    let f = fits so (cells-sound _) size (omega arith) in
+    omega arith
 
 sub-rest : tie.Need-sub-rest Inv-loop μ-loop
-sub-rest c = let f = fits (c .before .before .before .before .before .before .loop .inv) (cells-sound _) (cell-size-held _ _ (c .before .before .before .before .i32-at .ok) (c .before .before .before .before .i32-at .ensures) _ (c .before .before .before .cell-size .ensures)) (omega arith) in omega arith
+sub-rest c =
+    let w = c .before .before .before .before in
+    let so = w .before .before .loop .inv in
+    let size = cell-size-held _ _ (w .i32-at .ok) (w .i32-at .ensures) _ (c .before .before .before .cell-size .ensures) in
+    let f = fits so (cells-sound _) size (omega arith) in
+    omega arith
 
 loop-less : tie.Need-loop-less Inv-loop μ-loop
-loop-less c = let f = fits (c .before .before .before .before .before .before .loop .inv) (cells-sound _) (cell-size-held _ _ (c .before .before .before .before .i32-at .ok) (c .before .before .before .before .i32-at .ensures) _ (c .before .before .before .cell-size .ensures)) (omega arith) in omega arith
+loop-less c =
+    let w = c .before .before .before .before in
+    let so = w .before .before .loop .inv in
+    let size = cell-size-held _ _ (w .i32-at .ok) (w .i32-at .ensures) _ (c .before .before .before .cell-size .ensures) in
+    let f = fits so (cells-sound _) size (omega arith) in
+    omega arith
 
 loop-again : tie.Need-loop-again Inv-loop μ-loop
-loop-again c = goes (c .before .before .before .before .before .before .loop .inv) (cells-sound _) (cell-size-held _ _ (c .before .before .before .before .i32-at .ok) (c .before .before .before .before .i32-at .ensures) _ (c .before .before .before .cell-size .ensures)) (omega arith) (cells-whole _) (cell-adds-held _ _ (c .before .before .before .before .i32-at .ok) (c .before .before .before .before .i32-at .ensures) (c .before .cell-totals .ensures)) (c .sum .ensures)
+loop-again c =
+    let w = c .before .before .before .before in
+    let so = w .before .before .loop .inv in
+    let size = cell-size-held _ _ (w .i32-at .ok) (w .i32-at .ensures) _ (c .before .before .before .cell-size .ensures) in
+    let adds = cell-adds-held _ _ (w .i32-at .ok) (w .i32-at .ensures) (c .before .cell-totals .ensures) in
+    goes so (cells-sound _) size (omega arith) (cells-whole _) adds (c .sum .ensures)
 
 returns-2 : tie.Need-returns-2 Inv-loop μ-loop
 returns-2 c = ends (c .before .loop .inv) (cells-sound _) (c .loop-test .left)

@@ -2,7 +2,7 @@ use native.Mathlib.Omega.{arith}
 use mathlib.Core.Path.{_∙_}
 use lib.ListN.{length}
 use Rattle.hive_bin.specs.Walk.{binRow, binsIn}
-use Rattle.hive_bin.proofs.Sums.{SoFar, starts, ends, stops, fails, fits, room, goes}
+use Rattle.hive_bin.proofs.Sums.{SoFar, starts, ends, stops, fails, room, goes}
 use Rattle.hive_bin.proofs.Pieces.{bins-sound, bins-whole, bin-size-held, bin-told, bin-fails, bin-room, bin-adds-held}
 use borrow.Author.Needs.{needs}
 use Rattle.hive_bin.proofs.check_row.Statement.{statement}
@@ -32,7 +32,11 @@ bin-size-requires c κs = search needs
 
 returns : tie.Need-returns Inv-loop μ-loop
 unfolding binsIn binRow
-returns c = stops (c .before .before .before .loop .inv) (bins-sound _) (c .before .before .loop-test .taken) (bin-size-held _ _ _ (c .before .bin-size .ensures) ∙ c .if1 .taken)
+returns c =
+    let q = c .before in
+    let so = q .before .before .loop .inv in
+    let size = bin-size-held _ _ _ (q .bin-size .ensures) in
+    stops so (bins-sound _) (q .before .loop-test .taken) (size ∙ c .if1 .taken)
 
 add-check-cells : tie.Need-add-check-cells Inv-loop μ-loop
 add-check-cells c = let k = bin-told _ _ _ (c .before .bin-size .ensures) (omega arith) in omega arith
@@ -50,29 +54,56 @@ one-bin-requires : tie.Need-one-bin-requires Inv-loop μ-loop
 one-bin-requires c κs = search needs
 
 sum-requires : tie.Need-sum-requires Inv-loop μ-loop
-sum-requires c κs = bin-room _ _ _ (c .before .before .before .before .before .before .bin-size .ensures) (omega arith) _ (c .before .before .before .before .check-cells .ensures) (c .before .before .cells .given .1) (c .one-bin .ensures) (omega arith)
+sum-requires c κs =
+    let q = c .before .before .before .before .before .before in
+    bin-room _ _ _ (q .bin-size .ensures) (omega arith) _ (c .before .before .before .before .check-cells .ensures) (c .before .before .cells .given .1) (c .one-bin .ensures) (omega arith)
 
 sum-requires-2 : tie.Need-sum-requires-2 Inv-loop μ-loop
-sum-requires-2 c κs = room (c .before .before .before .before .before .before .before .before .before .loop .inv) (bins-sound _) (bin-size-held _ _ _ (c .before .before .before .before .before .before .before .bin-size .ensures)) (omega arith) (bins-whole _) (bin-adds-held _ _ _ (c .before .before .before .before .before .before .before .bin-size .ensures) (omega arith) _ (c .before .before .before .before .before .check-cells .ensures) (c .before .before .before .cells .given .1) (c .before .one-bin .ensures) (c .sum .ensures)) (omega arith)
+sum-requires-2 c κs =
+    let q = c .before .before .before .before .before .before .before in
+    let so = q .before .before .loop .inv in
+    let size = bin-size-held _ _ _ (q .bin-size .ensures) in
+    let adds = bin-adds-held _ _ _ (q .bin-size .ensures) (omega arith) _ (c .before .before .before .before .before .check-cells .ensures) (c .before .before .before .cells .given .1) (c .before .one-bin .ensures) (c .sum .ensures) in
+    room so (bins-sound _) size (omega arith) (bins-whole _) adds (omega arith)
 
 add-at : tie.Need-add-at Inv-loop μ-loop
-add-at c = let k = bin-told _ _ _ (c .before .before .before .before .before .before .before .before .bin-size .ensures) (omega arith) in omega (arith, c .before .before .before .before .before .before .before .before .before .before .loop .inv .place, c .before .before .before .before .before .before .before .before .before .before .before .before .before .good .0)
+add-at c =
+    let q = c .before .before .before .before .before .before .before .before in
+    let so = q .before .before .loop .inv in
+    let k = bin-told _ _ _ (q .bin-size .ensures) (omega arith) in
+    omega (arith, so .place, q .before .before .before .before .before .good .0)
 
 sub-left : tie.Need-sub-left Inv-loop μ-loop
-sub-left c = let k = bin-told _ _ _ (c .before .before .before .before .before .before .before .before .bin-size .ensures) (omega arith) in omega arith
+sub-left c =
+    let q = c .before .before .before .before .before .before .before .before in
+    let k = bin-told _ _ _ (q .bin-size .ensures) (omega arith) in
+    omega arith
 
 loop-less : tie.Need-loop-less Inv-loop μ-loop
-loop-less c = let k = bin-told _ _ _ (c .before .before .before .before .before .before .before .before .bin-size .ensures) (omega arith) in omega arith
+loop-less c =
+    let q = c .before .before .before .before .before .before .before .before in
+    let k = bin-told _ _ _ (q .bin-size .ensures) (omega arith) in
+    omega arith
 
 loop-again : tie.Need-loop-again Inv-loop μ-loop
-loop-again c = goes (c .before .before .before .before .before .before .before .before .before .before .loop .inv) (bins-sound _) (bin-size-held _ _ _ (c .before .before .before .before .before .before .before .before .bin-size .ensures)) (omega arith) (bins-whole _) (bin-adds-held _ _ _ (c .before .before .before .before .before .before .before .before .bin-size .ensures) (omega arith) _ (c .before .before .before .before .before .before .check-cells .ensures) (c .before .before .before .before .cells .given .1) (c .before .before .one-bin .ensures) (c .before .sum .ensures)) (c .sum2 .ensures)
+loop-again c =
+    let q = c .before .before .before .before .before .before .before .before in
+    let so = q .before .before .loop .inv in
+    let size = bin-size-held _ _ _ (q .bin-size .ensures) in
+    let adds = bin-adds-held _ _ _ (q .bin-size .ensures) (omega arith) _ (c .before .before .before .before .before .before .check-cells .ensures) (c .before .before .before .before .cells .given .1) (c .before .before .one-bin .ensures) (c .before .sum .ensures) in
+    goes so (bins-sound _) size (omega arith) (bins-whole _) adds (c .sum2 .ensures)
 
 enum-known-refusal : tie.Need-enum-known-refusal Inv-loop μ-loop
 enum-known-refusal c = search needs
 
 returns-2 : tie.Need-returns-2 Inv-loop μ-loop
 unfolding binsIn
-returns-2 c = fails (c .before .before .before .before .before .before .before .loop .inv) (bins-sound _) (bin-size-held _ _ _ (c .before .before .before .before .before .bin-size .ensures)) (omega arith) (bin-fails _ _ _ (c .before .before .before .before .before .bin-size .ensures) (omega arith) _ (c .before .before .before .check-cells .ensures) (c .before .refusal .given .1))
+returns-2 c =
+    let q = c .before .before .before .before .before in
+    let so = q .before .before .loop .inv in
+    let size = bin-size-held _ _ _ (q .bin-size .ensures) in
+    let bad = bin-fails _ _ _ (q .bin-size .ensures) (omega arith) _ (c .before .before .before .check-cells .ensures) (c .before .refusal .given .1) in
+    fails so (bins-sound _) size (omega arith) bad
 
 returns-3 : tie.Need-returns-3 Inv-loop μ-loop
 unfolding binsIn

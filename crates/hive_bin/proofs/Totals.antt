@@ -8,11 +8,12 @@ use lib.ListN.{length}
 use lib.Dec.{ltb}
 use borrow.Author.Tests.{ltb-true, ltb-false}
 use Rattle.words.specs.Refusals.{OUTSIDE, CUT-SHORT, BAD-BIN, BAD-CELL}
-use Rattle.words.specs.Paper.{Told, success, refused, by}
+use Rattle.words.specs.Paper.{Told, success, refused, by, told}
+use Rattle.words.specs.declared.Refusal.{Refusal}
 use Rattle.words.proofs.Papers.{success-refused, same-told}
 use Rattle.hive_bin.specs.declared.BinTotals.{BinTotals}
 use Rattle.hive_bin.specs.declared.BinsAnswer.{BinsAnswer}
-use Rattle.hive_bin.specs.declared.BinsAnswer.the-variants.{Totals}
+use Rattle.hive_bin.specs.declared.BinsAnswer.the-variants.{Totals, Refused}
 use Rattle.hive_bin.specs.Answers.{binsPaper}
 use Rattle.hive_bin.specs.Walk.{Found, found, binsAt}
 use Rattle.hive_bin.specs.Totals.{allocatedSize, freeSize, sumOver, answerOf, binsOf}
@@ -52,3 +53,7 @@ module _ (s : List ℕ) (base size : ℕ) where
   pub answer-totals : (r : BinsAnswer) → binsPaper r ≡ binsOf s base size
       → (t : BinTotals) → r ≡ Totals t → t .«allocated_bytes» + t .«free_bytes» + 32 * t .bins ≡ size
   answer-totals r e t h = success-fills t (sym e ∙ ap binsPaper h)
+
+  pub answer-within : base + size ≤ length s → (r : BinsAnswer) → binsPaper r ≡ binsOf s base size
+      → (f : Refusal) → r ≡ Refused f → (base ≤ f .position) × (f .position < base + size)
+  answer-within h r e f g = let k = within h (told f) (sym e ∙ ap binsPaper g) in (k .0, k .1)

@@ -1,0 +1,9 @@
+-- What several proofs use, and the proofs of the crates above cite.
+pub mod Signs
+pub mod Rows
+pub mod Sums
+pub mod Pieces
+pub mod Image
+pub mod Totals
+pub mod Papers
+pub mod Examples

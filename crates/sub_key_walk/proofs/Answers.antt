@@ -9,7 +9,6 @@ use lib.ListN.{length, drop}
 use lib.Seq.{sets, sets-eq}
 use Rattle.words.specs.Refusals.{TOO-MANY, BAD-BUDGET}
 use Rattle.words.specs.Paper.{Paper, success, refused, by}
-use Rattle.words.proofs.Papers.{success-refused, same-success, same-told}
 use Rattle.sub_key_walk.specs.Trace.{walkFrom, keptOf}
 use Rattle.sub_key_walk.specs.Judge.{judge}
 use Rattle.sub_key_walk.specs.Answers.{BUDGET-LIMIT, COUNT-LIMIT, none, noRoom, inRoom, answerOf, keptBy, bufferAfter, walkTold, walkPaper, Answered}
@@ -18,29 +17,8 @@ use Rattle.sub_key_walk.specs.declared.Counts.{Counts}
 use Rattle.sub_key_walk.specs.declared.WalkRefusal.{WalkRefusal}
 use Rattle.sub_key_walk.specs.declared.WalkAnswer.{WalkAnswer}
 use Rattle.sub_key_walk.specs.declared.WalkAnswer.the-variants.{Read, Refused}
+use Rattle.sub_key_walk.proofs.Papers.{paper-read}
 use Rattle.sub_key_walk.proofs.Walks.{judge-kept, walk-success}
-
--- ---- what document 01 says of an answer tells the answers apart
-
-same-fault : {f g : WalkRefusal} → walkTold f ≡ walkTold g → f ≡ g
-same-fault e = λ i. record { number = e i .number; position = e i .position; lists = e i .lists; places = e i .places; entries = e i .entries }
-
-pub paper-injective : (a b : WalkAnswer) → walkPaper a ≡ walkPaper b → a ≡ b
-paper-injective (Read t) (Read u) e = ap Read (same-success e)
-paper-injective (Read t) (Refused g) e = absurd (success-refused e)
-paper-injective (Refused f) (Read u) e = absurd (success-refused (sym e))
-paper-injective (Refused f) (Refused g) e = ap Refused (same-fault (same-told e))
-
--- two answers and two buffers that are allowed for one input are equal
-pub answers-determined : {s : List ℕ} {base count list budget : ℕ} {old : List ℕ} {r r′ : WalkAnswer} {new new′ : List ℕ}
-    → Answered s base count list budget old r new → Answered s base count list budget old r′ new′ → (r ≡ r′) × (new ≡ new′)
-answers-determined {r = r} {r′ = r′} x y = (paper-injective r r′ (x .answer ∙ sym (y .answer)), x .buffer ∙ sym (y .buffer))
-
--- an answer that succeeds by document 01 is a success of the code
-pub paper-read : (r : WalkAnswer) (t : Counts) → walkPaper r ≡ success t → r ≡ Read t
-paper-read r t e = paper-injective r (Read t) e
-
--- ---- the answers
 
 -- all stores from the first place on
 sets-front : (ks old : List ℕ) → length ks ≤ length old → sets old 0 ks ≡ ks ++ drop (length ks) old

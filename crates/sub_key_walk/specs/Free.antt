@@ -7,7 +7,7 @@ use lib.Dec.{ltb, eqb}
 use lib.ListN.{length}
 use Rattle.words.specs.Paper.{Paper, success, refused}
 use Rattle.sub_key_list.specs.Lists.{LF, LH, LI, RI, entrySize, kindAt, countAt}
-use Rattle.sub_key_walk.specs.Trace.{Event, deep, bad, index, leaf, walkFrom, keptOf, listsOf}
+use Rattle.sub_key_walk.specs.Trace.{Event, deep, bad, index, leaf, walkFrom, keptOf, listsOf, entriesOf}
 use Rattle.sub_key_walk.specs.Answers.{BUDGET-LIMIT, COUNT-LIMIT}
 use Rattle.sub_key_walk.specs.declared.Counts.{Counts}
 use Rattle.sub_key_walk.specs.declared.WalkAnswer.{WalkAnswer}
@@ -44,6 +44,10 @@ pub record Met (s : List ℕ) (base list budget room : ℕ) : Type 0 where
   pub fine : All (Fine s) (walkFrom s base list)
   pub within : listsOf (walkFrom s base list) ≤ budget
   pub fits : length (keptOf (walkFrom s base list)) ≤ room
+
+-- the counts of all lists reached
+abbrev pub countsOf : List Event → Counts
+countsOf es = record { kept = length (keptOf es); lists = listsOf es; entries = entriesOf es }
 
 -- a list that can be read is not empty
 unfoldable pub Full : Event → Type 0

@@ -1,0 +1,26 @@
+-- A loop that fills a list from the front with f 0, f 1, .. Assumes nothing.
+use mathlib.Core.Path.{_≡_, refl, sym, ap, _∙_}
+use mathlib.Core.List.{List, [], _∷_, _++_}
+use Prim.Native.Nat.{ℕ, zero, suc, _+_, _<_}
+use native.Mathlib.Numerals.{add-one}
+use native.Mathlib.Omega.{arith}
+use lib.ListN.{length, getD, set, drop, length-append}
+use lib.Seq.{drop-cons, set-at, append-snoc}
+use Rattle.cell_key_node.specs.ValueList.{upTo}
+
+pub up-length : (f : ℕ → ℕ) (n : ℕ) → length (upTo f n) ≡ n
+unfolding upTo
+up-length f zero = refl
+up-length f (suc n) = omega (arith, length-append (upTo f n) (f n ∷ []), up-length f n)
+
+pub filled-none : (f : ℕ → ℕ) (d : List ℕ) → d ≡ upTo f 0 ++ drop 0 d
+unfolding upTo
+filled-none f d = refl
+
+pub filled-more : (f : ℕ → ℕ) (n : ℕ) (d : List ℕ) → n < length d → set (upTo f n ++ drop n d) n (f n) ≡ upTo f (n + 1) ++ drop (n + 1) d
+unfolding upTo
+filled-more f n d h =
+    rw add-one
+    (ap (λ (t : List ℕ). set (upTo f n ++ t) n (f n)) (drop-cons d n 0 h)
+    ∙ set-at (upTo f n) (getD d n 0) (drop (suc n) d) (f n) n (up-length f n)
+    ∙ sym (append-snoc (upTo f n) (f n) (drop (suc n) d)))

@@ -1,0 +1,5 @@
+pub mod Checks
+pub mod Fill
+pub mod ValueLists
+pub mod Answers
+pub mod Examples

@@ -1,0 +1,460 @@
+#!/usr/bin/env python3
+"""Document 01 read as a program, and nothing else: written from the paper, not from the Rust and not from the Rattle.
+
+    compare/paper.py < CASES > LINES
+
+reads a stream of cases and writes one whole line for each (compare/README.md). Each test stands in the order of the paper's
+sentences, which are quoted."""
+import sys
+
+# "Refusal numbers"
+SHORT, OUTSIDE, BAD_SIZE, BAD_SIGN, BAD_NAME, NO_LIST, TOO_MANY, CUT_SHORT, NO_ROOM, BAD_BIN, BAD_CELL = range(1, 12)
+TOO_LARGE, BAD_BUDGET, TOO_DEEP, OUT_OF_STEPS, NOT_FOUND = range(12, 17)
+
+MOST_COUNT = 1_048_576
+MOST_BUDGET = 65_536
+
+
+class Refused(Exception):
+    """ "A refusal returns its number, the position of the list, bin, cell or record at fault .. and, from the walk, the lists
+    read so far. Other fields are 0, except that NO ROOM also returns the places needed and the walk's entry count." """
+
+    def __init__(self, number, position=0, lists=0, places=0, entries=0):
+        super().__init__(number)
+        self.number, self.position, self.lists, self.places, self.entries = number, position, lists, places, entries
+
+
+# "All numbers are little-endian."
+def unsigned(image, at, width):
+    return int.from_bytes(image[at:at + width], "little")
+
+
+def signed(image, at):
+    return int.from_bytes(image[at:at + 4], "little", signed=True)
+
+
+# ---- "Base block"
+
+def checksum(image):
+    # 1: "under 508 bytes for a checksum"; "0 for numbers 1 and 4 on header or checksum input"
+    if len(image) < 508:
+        raise Refused(SHORT)
+    # "The checksum is the XOR of the 127 words of bytes 0 to 507, 0 becoming 1 and FFFFFFFF becoming FFFFFFFE."
+    x = 0
+    for at in range(0, 508, 4):
+        x ^= unsigned(image, at, 4)
+    return {0: 1, 0xFFFFFFFF: 0xFFFFFFFE}.get(x, x)
+
+
+# "Type 0 is primary, 1 log, 6 new log, every other number unknown; format 1 is direct load, others unknown."
+TYPES = {0: "primary", 1: "log", 6: "newlog"}
+FORMATS = {1: "direct"}
+
+
+def base_block(image):
+    # "Length is checked before signature."
+    if len(image) < 4096:
+        raise Refused(SHORT)
+    if image[0:4] != b"regf":
+        raise Refused(BAD_SIGN)
+    u = lambda at, width=4: unsigned(image, at, width)
+    # "primary and secondary sequence 4, 8; time 12 (8 bytes); major, minor 20, 24; type 28; format 32; root offset 36 (signed);
+    # bins size 40; clustering 44; filename 48 (64 bytes); unnamed 112 (396 bytes); checksum 508."
+    # "The raw number is given beside the kind." "it reports stored and computed."
+    block = [u(4), u(8), u(12, 8), u(20), u(24), u(28), TYPES.get(u(28), "unknown"), u(32), FORMATS.get(u(32), "unknown"),
+             signed(image, 36), u(40), u(44), u(508), checksum(image)]
+    # "The extension at 512: two 16-byte ids, flags, a 16-byte id, signature, time (8 bytes), 3,512 bytes, boot type 4088, boot
+    # recover 4092."
+    at = 512
+    widths = {}
+    for name, width in [("rm", 16), ("log", 16), ("flags", 4), ("tm", 16), ("signature", 4), ("time", 8), ("remaining", 3512)]:
+        widths[name] = (at, width)
+        at += width
+    assert at == 4088
+    number = lambda name: unsigned(image, *widths[name])
+    part = lambda name: image[widths[name][0]:sum(widths[name])]
+    return (block + [number("flags"), number("signature"), number("time"), u(4088), u(4092)]
+            + [hexed(image[48:112])] + summed(image[112:508])
+            + [hexed(part("rm")), hexed(part("log")), hexed(part("tm"))] + summed(part("remaining")))
+
+
+# ---- "Modules in order": "`is_big_data_block` is true exactly when bytes 4 and 5 exist and are `db`."
+
+def is_big_data_block(image):
+    return len(image) >= 6 and image[4:6] == b"db"
+
+
+# ---- "Key and value records"
+
+def record(image, position, fixed, sign, length_at):
+    """The checks that both records share, "in order: 2, 1, 3, 4, 5". Gives the size's magnitude and the name's length."""
+    # 2: "a position is greater than the image length"
+    if position > len(image):
+        raise Refused(OUTSIDE, position)
+    left = len(image) - position
+    # 1: "80 left for a key record, 24 for a value record"
+    if left < fixed:
+        raise Refused(SHORT, position)
+    # 3: "a record's size magnitude is below its fixed part (80 or 24) or above the bytes left"
+    size = abs(signed(image, position))
+    if size < fixed or size > left:
+        raise Refused(BAD_SIZE, position)
+    # 4: "a signature is not one expected"
+    if image[position + 4:position + 6] != sign:
+        raise Refused(BAD_SIGN, position)
+    # 5: "a name passes its cell's end"
+    length = unsigned(image, position + length_at, 2)
+    if fixed + length > size:
+        raise Refused(BAD_NAME, position)
+    return size, length
+
+
+def key_record(image, p):
+    # "size 0 (signed), "nk" 4, flags 6, time 8 (8 bytes), access 16, parent 20 (signed), subkeys 24, volatile subkeys 28, subkey
+    # list 32, volatile list 36 (signed), values 40, value list 44 (signed), security 48, class 52 (signed), four largest sizes 56
+    # to 68, work 72, name length 76 and class length 78 (16 bits each), name 80."
+    size, length = record(image, p, 80, b"nk", 76)
+    u = lambda at, width=4: unsigned(image, p + at, width)
+    s = lambda at: signed(image, p + at)
+    # "A negative size means allocated, a positive one free; both read."
+    fields = [s(0), int(s(0) < 0), u(6, 2), u(8, 8), u(16), s(20), u(24), u(28), u(32), s(36), u(40), s(44), u(48), s(52),
+              u(56), u(60), u(64), u(68), u(72), u(76, 2), u(78, 2)]
+    # "The name and the slack (from the name's end to the cell's end) are handed back as parts of the caller's image"
+    return fields + [hexed(image[p + 80:p + 80 + length])] + summed(image[p + 80 + length:p + size])
+
+
+def value_record(image, p):
+    # "Value record: size 0, "vk" 4, name length 6, data size 8, data offset 12, type 16, flags 20, name 24." The specification has
+    # 16 bits of flags there, and two spare bytes after them.
+    _, length = record(image, p, 24, b"vk", 6)
+    u = lambda at, width=4: unsigned(image, p + at, width)
+    size = signed(image, p)
+    return [size, int(size < 0), u(6, 2), u(8), u(12), u(16), u(20, 2)], image[p + 24:p + 24 + length]
+
+
+# ---- "Value lists and lookup"
+
+def value_entries(image, count, offset, base):
+    """The list's entries and its refusals without 9."""
+    # "In order: count 0 succeeds with none; then 6; then 7"
+    if count == 0:
+        return []
+    # 6: "value count above 0, list offset at most 0 or at least the image length"; "compares the offset without the base"
+    if offset <= 0 or offset >= len(image):
+        raise Refused(NO_LIST)
+    # 7: "subkey or value count above 1,048,576"
+    if count > MOST_COUNT:
+        raise Refused(TOO_MANY)
+    # "position = offset + base, then 2"
+    position = offset + base
+    if position > len(image):
+        raise Refused(OUTSIDE, position)
+    # "size word plus 4 bytes an entry must be present, else 8"
+    if position + 4 + 4 * count > len(image):
+        raise Refused(CUT_SHORT, position)
+    # "The entries are given as stored, relative."
+    return [unsigned(image, position + 4 + 4 * i, 4) for i in range(count)]
+
+
+def value_list(image, count, offset, base, out):
+    entries = value_entries(image, count, offset, base)
+    # "then 9"
+    if len(entries) > len(out):
+        raise Refused(NO_ROOM, places=len(entries))
+    out[:len(entries)] = entries
+    return entries
+
+
+def lower(name):
+    """ "ASCII lower case only" """
+    return bytes(x + 32 if 65 <= x <= 90 else x for x in name)
+
+
+def lookup(image, count, offset, base, name):
+    # "Lookup by name goes through the list in order." "the list's refusals without 9 come first"
+    for entry in value_entries(image, count, offset, base):
+        # "The first match or the first unreadable record decides; the latter gives its refusal."
+        position = entry + base
+        fields, stored = value_record(image, position)
+        # "A stored name matches if both lengths are 0, or if flag 0001 is set and the bytes are equal after ASCII lower case only."
+        if len(stored) == 0 and len(name) == 0 or fields[6] & 1 and lower(stored) == lower(name):
+            # "A match gives the record and its position"
+            return [position] + fields
+    # 16: "every record reads and none matches"; "Count 0 is NOT FOUND."
+    raise Refused(NOT_FOUND)
+
+
+# ---- "The subkey walk"
+
+KINDS = {b"ri": 4, b"lf": 8, b"lh": 8, b"li": 4}
+
+
+def one_list(image, position):
+    """ "2, then 8 if under 8 bytes are left, 4 if bytes 4 and 5 aren't `ri`, `lf`, `lh` or `li`, 8 if its entries pass the
+    image." "Count: 16 bits at 6; entries at 8, of 8 bytes (`lf`, `lh`: offset, hint) or 4 (`li`, `ri`)." """
+    if position > len(image):
+        raise Refused(OUTSIDE, position)
+    if len(image) - position < 8:
+        raise Refused(CUT_SHORT, position)
+    sign = image[position + 4:position + 6]
+    if sign not in KINDS:
+        raise Refused(BAD_SIGN, position)
+    each, count = KINDS[sign], unsigned(image, position + 6, 2)
+    if position + 8 + each * count > len(image):
+        raise Refused(CUT_SHORT, position)
+    return sign, each, count
+
+
+def walk(image, count, offset, base, budget, out):
+    # "From a key record: 13, then 7; count 0 succeeds and reads nothing."
+    if budget > MOST_BUDGET:
+        raise Refused(BAD_BUDGET)
+    if count > MOST_COUNT:
+        raise Refused(TOO_MANY)
+    kept, lists, entries = [], 0, 0
+    # "The top list has level 1; a list named in an `ri` list lies one level lower." "Entries are followed depth first, in order."
+    # What is still to be reached, the next one last:
+    ahead = [(offset, 1)] if count > 0 else []
+    while ahead:
+        offset, level = ahead.pop()
+        # "On reaching a list, at its offset plus base: 14, 15, 2, then 8 .. 4 .. 8"
+        position = offset + base
+        if level == 9:
+            raise Refused(TOO_DEEP, position, lists)
+        if lists == budget:
+            raise Refused(OUT_OF_STEPS, position, lists)
+        try:
+            sign, each, n = one_list(image, position)
+        except Refused as r:
+            raise Refused(r.number, r.position, lists) from None
+        # "Then it counts as read." "A list reached twice counts twice."
+        lists += 1
+        named = [unsigned(image, position + 8 + each * i, 4) for i in range(n)]
+        if sign == b"ri":
+            ahead.extend((x, level + 1) for x in reversed(named))
+        else:
+            # "leaf entries, dropped ones included"
+            entries += n
+            # "A leaf entry whose offset plus base is 4,294,967,296 or more is dropped; others are kept as that sum."
+            kept.extend(x + base for x in named if x + base < 4_294_967_296)
+    # "9 comes after all others"; "the lists read so far"; "the places needed and the walk's entry count"
+    if len(kept) > len(out):
+        raise Refused(NO_ROOM, 0, lists, len(kept), entries)
+    # "On success the output is written from the first place on"
+    out[:len(kept)] = kept
+    # "The answer gives offsets kept, lists read, and leaf entries"
+    return kept, lists, entries
+
+
+# ---- "Bins and cells"
+
+def bins(image, base, size):
+    # "Base plus size past the image: 8, never 2."; "the base for 8 on the bins"
+    if base + size > len(image):
+        raise Refused(CUT_SHORT, base)
+    count, cells = 0, []
+    # "Bins fill the bins size exactly from the base."
+    at, end = base, base + size
+    while at < end:
+        rest = end - at
+        # "A bin has "hbin", its own relative offset at 4, its size at 8, a nonzero multiple of 4,096 within the rest; else 10, also
+        # where the rest is too short for a header."
+        length = unsigned(image, at + 8, 4)
+        if (rest < 32 or image[at:at + 4] != b"hbin" or unsigned(image, at + 4, 4) != at - base
+                or length == 0 or length % 4096 != 0 or length > rest):
+            raise Refused(BAD_BIN, at)
+        # "From its byte 32 cells fill it: size magnitude a nonzero multiple of 8 within the bin; else 11."
+        cell, bin_end = at + 32, at + length
+        while cell < bin_end:
+            # a size word that passes the bin's end leaves no cell "within the bin"
+            word = signed(image, cell) if cell + 4 <= bin_end else 0
+            if word == 0 or word % 8 != 0 or abs(word) > bin_end - cell:
+                raise Refused(BAD_CELL, cell)
+            cells.append(word)
+            cell += abs(word)
+        # "Each bin is judged with its cells before the next."
+        count += 1
+        at += length
+    # "Answers: bins, allocated and free cells and bytes." "A negative size means allocated, a positive one free"
+    used, free = [-w for w in cells if w < 0], [w for w in cells if w > 0]
+    # "Allocated plus free bytes plus 32 per bin equal the bins size"
+    assert sum(used) + sum(free) + 32 * count == size
+    return [count, len(used), len(free), sum(used), sum(free)]
+
+
+# ---- "Name hash"
+
+def upper(x):
+    """ "97 to 122 and 224 to 254 except 247 are 32 less, 255 is 376, the others unchanged. Units of 256 and above are
+    unchanged." """
+    if 97 <= x <= 122 or 224 <= x <= 254 and x != 247:
+        return x - 32
+    return 376 if x == 255 else x
+
+
+def name_hash(flags, name):
+    # "Characters are bytes, or 16-bit units if flag 0020 of the key is clear."
+    if flags & 0x0020:
+        units = list(name)
+    else:
+        # 5: "a 16-bit name to be hashed has odd length"; position 0: "5 on a hash"
+        if len(name) % 2 == 1:
+            raise Refused(BAD_NAME)
+        units = [unsigned(name, at, 2) for at in range(0, len(name), 2)]
+    # "From 0, for each character: hash times 37 plus the upper-case character, modulo 2^32."
+    h = 0
+    for x in units:
+        h = (h * 37 + upper(x)) % 2 ** 32
+    return h
+
+
+# ---- the stream and the lines (compare/README.md)
+
+IMAGE_MOST, NAME_MOST, ROOM_MOST = 524_288, 65_536, 262_144
+PATCH, LENGTH = 100, 101
+
+
+def hexed(part):
+    return part.hex() or "-"
+
+
+def sums(row):
+    """The sum of a row and the sum of its running sums, both in 64 bits."""
+    plain = running = 0
+    for x in row:
+        plain += x
+        running += plain
+    return [plain % 2 ** 64, running % 2 ** 64]
+
+
+def summed(part):
+    return [len(part)] + sums(part)
+
+
+pattern = [(i + 1) * 0x9E3779B1 % 2 ** 32 for i in range(ROOM_MOST)]
+
+
+def untouched(out, written):
+    """ "the places after the last one written keep their old contents": how many of them do. """
+    if out[written:] == pattern[written:len(out)]:
+        return len(out) - written
+    return sum(out[i] == pattern[i] for i in range(written, len(out)))
+
+
+def with_part(image, position, read, parts):
+    """A record's answer. "for a refused record each is the empty part": their lengths follow the refusal."""
+    try:
+        return ["ok"] + read(image, position)
+    except Refused as r:
+        return ["refused", r.number, r.position] + [0] * parts
+
+
+def whole_value(image, position):
+    fields, name = value_record(image, position)
+    return fields + [hexed(name)]
+
+
+def answer(tag, a, b, c, d, e, name, image):
+    as_signed = lambda x: x - 2 ** 32 if x >= 2 ** 31 else x
+    if tag == 4:
+        out = pattern[:d]
+        try:
+            entries = value_list(image, a, as_signed(b), c, out)
+            return ["ok", len(entries)] + sums(entries) + [untouched(out, len(entries))]
+        except Refused as r:
+            return ["refused", r.number, r.position, r.places, untouched(out, 0)]
+    if tag == 5:
+        out = pattern[:e]
+        try:
+            kept, lists, entries = walk(image, a, b, c, d, out)
+            return ["ok", len(kept), lists, entries] + sums(kept) + [untouched(out, len(kept))]
+        except Refused as r:
+            return ["refused", r.number, r.position, r.lists, r.places, r.entries, untouched(out, 0)]
+    if tag == 6:
+        return with_part(image, a, key_record, 2)
+    if tag == 7:
+        return with_part(image, a, whole_value, 1)
+    try:
+        if tag == 1:
+            return ["ok", checksum(image)]
+        if tag == 2:
+            return ["ok"] + base_block(image)
+        if tag == 3:
+            return ["ok", int(is_big_data_block(image))]
+        if tag == 8:
+            return ["ok"] + lookup(image, a, as_signed(b), c, name)
+        if tag == 9:
+            return ["ok", name_hash(a & 0xFFFF, image)]
+        if tag == 10:
+            return ["ok"] + bins(image, a, b)
+        if tag == 11:
+            sign, each, count = one_list(image, a)
+            return ["ok", unsigned(sign, 0, 2), each, count]
+        if tag == 12:
+            # words past the end count as 0
+            u = lambda width: unsigned(image, a, width)
+            return ["ok", u(1), u(2), u(4), u(8), as_signed(u(4))]
+        return ["none"]
+    except Refused as r:
+        return ["refused", r.number, r.position]
+
+
+def bad(why):
+    sys.exit(f"a bad case in the stream: {why}")
+
+
+def cases(read):
+    """Each case: tag, the five words, name, image. What a mask leaves out is as before."""
+    words, name, kept, length, image = [0] * 5, b"", bytearray(IMAGE_MOST), 0, b""
+
+    def exactly(n):
+        got = read(n)
+        if len(got) < n:
+            bad("it is cut short")
+        return got
+
+    while True:
+        tag = read(1)
+        if not tag:
+            return
+        tag, mask = tag[0], exactly(1)[0]
+        if mask > 127:
+            bad("a mask")
+        fresh = [int.from_bytes(exactly(4), "little") if mask >> i & 1 else None for i in range(7)]
+        words = [w if x is None else x for w, x in zip(words, fresh)]
+        if fresh[5] is not None:
+            if fresh[5] > NAME_MOST:
+                bad("a name too long")
+            name = exactly(fresh[5])
+        if fresh[6] is not None:
+            if fresh[6] > IMAGE_MOST:
+                bad("an image too long")
+            length = fresh[6]
+            image = exactly(length)
+            kept[:length] = image
+        if tag == PATCH:
+            if words[0] + len(name) > IMAGE_MOST:
+                bad("a patch past the end")
+            kept[words[0]:words[0] + len(name)] = name
+            image = None
+        elif tag == LENGTH:
+            if words[0] > IMAGE_MOST:
+                bad("an image too long")
+            length = words[0]
+            image = None
+        else:
+            if tag == 4 and words[3] > ROOM_MOST or tag == 5 and words[4] > ROOM_MOST:
+                bad("room")
+            if image is None:
+                image = bytes(kept[:length])
+            yield tag, *words, name, image
+
+
+def main():
+    write = sys.stdout.write
+    for case in cases(sys.stdin.buffer.read):
+        write(f"{case[0]} {' '.join(map(str, answer(*case)))}\n")
+
+
+if __name__ == "__main__":
+    main()

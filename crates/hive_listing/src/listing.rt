@@ -1,0 +1,162 @@
+// The listing: the input read, then base block, bins, root key and walk in turn, up to the first refusal. What can be
+// read is decided in the libraries; here stand the order of the steps and the form of the lines.
+use base_block::BaseBlock;
+use base_block::BlockAnswer;
+use cell_key_node::KeyAnswer;
+use cell_key_node::KeyNode;
+use hive_bin::BinTotals;
+use hive_bin::BinsAnswer;
+use sub_key_walk::Counts;
+use sub_key_walk::WalkAnswer;
+
+// Where the bins begin, and the most lists that the walk reads.
+const BASE: u32 = 4096;
+
+const BUDGET: u32 = 1024;
+
+fn text(s: &[u8]) {
+    io::write_all(1, s);
+}
+
+fn number(n: u64) {
+    text(b" ");
+    io::print_decimal(1, n);
+}
+
+fn word(n: u32) {
+    number(n as u64);
+}
+
+fn hex(n: u32) {
+    text(b" ");
+    io::print_hex(1, n as u64, 8);
+}
+
+// A signed word, with its sign where it is negative.
+fn signed(z: i32) {
+    text(b" ");
+    if z < 0 {
+        text(b"-");
+    }
+    io::print_decimal(1, words::magnitude(z) as u64);
+}
+
+fn refused(n: u32) {
+    text(b"refused");
+    word(n);
+    text(b"\n");
+}
+
+fn base_line(b: BaseBlock) {
+    text(b"base");
+    word(b.primary_sequence_number);
+    word(b.secondary_sequence_number);
+    word(b.major_version);
+    word(b.minor_version);
+    word(b.file_type_raw);
+    signed(b.root_cell_offset);
+    word(b.hive_bins_data_size);
+    hex(b.checksum);
+    hex(b.computed_checksum);
+    text(b"\n");
+}
+
+fn bins_line(t: BinTotals) {
+    text(b"bins");
+    number(t.bins as u64);
+    number(t.allocated_cells as u64);
+    number(t.free_cells as u64);
+    number(t.allocated_bytes as u64);
+    number(t.free_bytes as u64);
+    text(b"\n");
+}
+
+fn keys_line(c: Counts) {
+    text(b"keys");
+    word(c.kept);
+    word(c.lists);
+    word(c.entries);
+    text(b"\n");
+}
+
+fn offset_line(offset: u32) {
+    io::print_decimal(1, offset as u64);
+    text(b"\n");
+}
+
+// The first `n` offsets, one a line.
+fn offset_lines(out: &[u32], n: u32) {
+    let mut i: usize = 0;
+    while i < out.len() {
+        if n as usize <= i {
+            return;
+        }
+        offset_line(out[i]);
+        i += 1;
+    }
+}
+
+fn list_keys(image: &[u8], root: KeyNode) {
+    let mut out = [0u32; 4096];
+    match sub_key_walk::sub_keys(
+        image,
+        BASE,
+        root.number_of_sub_keys,
+        root.sub_keys_list_offset_relative,
+        BUDGET,
+        &mut out,
+    ) {
+        WalkAnswer::Refused(f) => refused(f.number),
+        WalkAnswer::Read(c) => {
+            keys_line(c);
+            offset_lines(&out, c.kept);
+        }
+    }
+}
+
+fn list_root(image: &[u8], offset: i32) {
+    if offset < 0 {
+        refused(words::OUTSIDE);
+        return;
+    }
+    let position = words::above_zero(offset) as usize + BASE as usize;
+    match cell_key_node::read_key_node(image, position) {
+        KeyAnswer::Refused(f) => refused(f.number),
+        KeyAnswer::Key(root) => list_keys(image, root),
+    }
+}
+
+fn list_bins(image: &[u8], size: u32, root: i32) {
+    match hive_bin::check_bins(image, BASE, size) {
+        BinsAnswer::Refused(f) => refused(f.number),
+        BinsAnswer::Totals(t) => {
+            bins_line(t);
+            list_root(image, root);
+        }
+    }
+}
+
+fn list(image: &[u8]) {
+    match base_block::read_base_block(image) {
+        BlockAnswer::Refused(f) => refused(f.number),
+        BlockAnswer::Block(b) => {
+            base_line(b);
+            list_bins(image, b.hive_bins_data_size, b.root_cell_offset);
+        }
+    }
+}
+
+// Lists what a file descriptor delivers, in however many pieces: at most 65,536 bytes.
+pub fn list_input(input: i32) {
+    let mut image = [0u8; 65536];
+    let n = io::read_full(input, &mut image);
+    if n == 65536 {
+        let mut more = [0u8; 1];
+        let extra = io::read_full(input, &mut more);
+        if 0 < extra {
+            refused(words::TOO_LARGE);
+            return;
+        }
+    }
+    list(&image[..n]);
+}

@@ -1,0 +1,6 @@
+// Lists one hive: standard input to lines on standard output (document 01, "Listing program").
+mod listing;
+
+fn main() {
+    listing::list_input(libc::STDIN_FILENO);
+}

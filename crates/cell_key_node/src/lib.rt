@@ -222,22 +222,22 @@ pub fn value_list_place(image: &[u8], base: u32, count: u32, offset: i32) -> Pla
             position: 0,
         });
     }
-    let position = relative + base as usize;
-    if image.len() < position {
+    let place = relative + base as usize;
+    if image.len() < place {
         return PlaceAnswer::Refused(Refusal {
             number: words::OUTSIDE,
-            position: position,
+            position: place,
         });
     }
     let entries = 4 * (count as usize);
-    let end = position + 4 + entries;
+    let end = place + 4 + entries;
     if image.len() < end {
         return PlaceAnswer::Refused(Refusal {
             number: words::CUT_SHORT,
-            position: position,
+            position: place,
         });
     }
-    PlaceAnswer::Place(position)
+    PlaceAnswer::Place(place)
 }
 
 // The entries of a list, as stored, into the first places of `out`.

@@ -1,0 +1,45 @@
+-- The list at a position, case by case, each from the facts that a reader tests. Assumes nothing.
+use mathlib.Core.Path.{_≡_}
+use mathlib.Core.List.{List}
+use Prim.Native.Nat.{ℕ, _+_, _*_, _-_, _≤_, _<_}
+use native.Mathlib.Nat.{mul-le-mul}
+use native.Mathlib.Omega.{arith}
+use lib.ListN.{length}
+use borrow.Author.Tests.{eq-eqb, ne-eqb, lt-ltb, le-ltb}
+use Rattle.words.specs.Refusals.{OUTSIDE, BAD-SIGN, CUT-SHORT}
+use Rattle.words.specs.Paper.{success, refused, by}
+use Rattle.sub_key_list.specs.Lists.{RI, entrySize, leaf, index, ofKind, kindAt, countAt, listAt}
+
+-- the bytes of all entries are few
+pub entries-fit : (size count : ℕ) → size < 256 → count < 65536 → size * count ≤ 16711425
+entries-fit size count h k = mul-le-mul {n₁ = size} {m₁ = count} {n₂ = 255} {m₂ = 65535} (omega arith) (omega arith)
+
+module _ (s : List ℕ) (p : ℕ) where
+  pub list-outside : length s < p → refused (by OUTSIDE p) ≡ listAt s p
+  unfolding listAt
+  list-outside h = simp (lt-ltb _ _ h)
+
+  module _ (h : p ≤ length s) where
+    pub list-cut : length s - p < 8 → refused (by CUT-SHORT p) ≡ listAt s p
+    unfolding listAt
+    list-cut k = simp (le-ltb _ _ h, lt-ltb _ _ k)
+
+    -- the header is there: its kind, the bytes an entry, and its count
+    module _ (k : 8 ≤ length s - p) {kind count size : ℕ} (e : kind ≡ kindAt s p) (f : count ≡ countAt s p) (g : size ≡ entrySize kind) where
+      pub list-unknown : size ≡ 0 → refused (by BAD-SIGN p) ≡ listAt s p
+      unfolding listAt
+      list-unknown z = simp (le-ltb _ _ h, le-ltb _ _ k, ← e, ← g, eq-eqb _ _ z)
+
+      module _ (z : size ≡ 0 → ⊥) where
+        pub list-passes : length s - p - 8 < size * count → refused (by CUT-SHORT p) ≡ listAt s p
+        unfolding listAt
+        list-passes l = simp (le-ltb _ _ h, le-ltb _ _ k, ← e, ← f, ← g, ne-eqb _ _ z, lt-ltb _ _ l)
+
+        module _ (l : size * count ≤ length s - p - 8) where
+          pub list-index : kind ≡ RI → success (index count) ≡ listAt s p
+          unfolding listAt ofKind
+          list-index i = simp (le-ltb _ _ h, le-ltb _ _ k, ← e, ← f, ← g, ne-eqb _ _ z, le-ltb _ _ l, eq-eqb _ _ i)
+
+          pub list-leaf : (kind ≡ RI → ⊥) → success (leaf kind size count) ≡ listAt s p
+          unfolding listAt ofKind
+          list-leaf i = simp (le-ltb _ _ h, le-ltb _ _ k, ← e, ← f, ← g, ne-eqb _ _ z, le-ltb _ _ l, ne-eqb _ _ i)

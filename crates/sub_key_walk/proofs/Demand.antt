@@ -1,0 +1,172 @@
+-- Demand 3, of the definitions that `sub_keys` is proved equal to, and last of its answer itself (`demand-3`). Assumes nothing.
+use mathlib.Core.Path.{_≡_, refl, ap, sym, _∙_}
+use mathlib.Core.List.{List, [], _∷_, _++_}
+use mathlib.Core.Bool.{Bool, true, false, cond}
+use Prim.Native.Nat.{ℕ, _+_, _*_, _≤_, _<_, min}
+use native.Mathlib.Nat.{zero-add}
+use native.Mathlib.Omega.{arith}
+use borrow.Author.Tests.{le-ltb, ltb-false}
+use lib.Dec.{ltb, eqb}
+use lib.ListN.{length, drop}
+use Rattle.words.specs.Paper.{Told, Paper, success, refused}
+use Rattle.words.proofs.Papers.{success-refused, same-success}
+use Rattle.sub_key_walk.specs.Trace.{Event, walkFrom, keptOf, listsOf, entriesOf}
+use Rattle.sub_key_walk.specs.Judge.{judge}
+use Rattle.sub_key_walk.specs.Answers.{BUDGET-LIMIT, COUNT-LIMIT, none, noRoom, inRoom, answerOf, keptBy, bufferAfter, walkTold, walkPaper, Answered}
+use Rattle.sub_key_walk.specs.Free.{All, Fine, Met, countsOf, Full, front, listsRead, listsBy, Succeeds}
+use Rattle.sub_key_walk.specs.declared.Counts.{Counts}
+use Rattle.sub_key_walk.specs.declared.WalkRefusal.{WalkRefusal}
+use Rattle.sub_key_walk.specs.declared.WalkAnswer.{WalkAnswer}
+use Rattle.sub_key_walk.specs.declared.WalkAnswer.the-variants.{Read, Refused}
+use Rattle.sub_key_walk.proofs.Walks.{counts-path}
+use Rattle.sub_key_walk.proofs.Papers.{paper-read}
+use Rattle.sub_key_walk.proofs.Answers.{Started, answer-walk, kept-walk}
+use Rattle.sub_key_walk.proofs.Judged.{tally, lists-all, judge-all, all-judge, judge-lists}
+use Rattle.sub_key_walk.proofs.Traces.{good-fine, fine-good, trace-dense}
+-- What document 01 says of an answer tells the answers apart, and two answers with their buffers that are allowed for one input
+-- are equal.
+pub use Rattle.sub_key_walk.proofs.Papers.{paper-injective, answers-determined}
+
+-- ---- the room
+
+room-lists : (room : ℕ) (a : Paper Counts) → listsBy (inRoom room a) ≡ listsBy a
+unfolding inRoom
+room-lists room (success t) = go (ltb room (t .kept))
+  where
+    go : (b : Bool) → listsBy (cond b (refused (noRoom t)) (success t)) ≡ t .lists
+    go true = refl
+    go false = refl
+room-lists room (refused t) = refl
+
+-- an answer that succeeds has a whole walk behind it that fits the room
+room-success : (room : ℕ) (a : Paper Counts) (u : Counts) → inRoom room a ≡ success u → (a ≡ success u) × (u .kept ≤ room)
+unfolding inRoom
+room-success room (success t) u q = go (ltb room (t .kept)) refl q
+  where
+    go : (b : Bool) → ltb room (t .kept) ≡ b → cond b (refused (noRoom t)) (success t) ≡ success u → (success t ≡ success u) × (u .kept ≤ room)
+    go true x y = absurd (success-refused (sym y))
+    go false x y =
+        let m : t .kept ≤ room = ltb-false _ _ x in
+        (y, rw (same-success y) at m)
+room-success room (refused t) u q = absurd (success-refused (sym q))
+
+-- ---- "Its reported number of lists is the definition's, refused or not": for every input
+
+pub lists-reported : (s : List ℕ) (base count list budget room : ℕ) → listsBy (answerOf s base count list budget room) ≡ listsRead s base count list budget
+unfolding answerOf listsRead
+lists-reported s base count list budget room = go (ltb BUDGET-LIMIT budget) (ltb COUNT-LIMIT count) (eqb count 0) refl refl refl
+  where
+    go : (a b c : Bool) → ltb BUDGET-LIMIT budget ≡ a → ltb COUNT-LIMIT count ≡ b → eqb count 0 ≡ c
+        → listsBy (answerOf s base count list budget room) ≡ listsRead s base count list budget
+    go true b c x y z = rw x
+    go false true c x y z = rw (x, y)
+    go false false true x y z = rw (x, y, z)
+    go false false false x y z =
+        rw (x, y, z)
+        (room-lists room (judge budget none (walkFrom s base list)) ∙ judge-lists budget none (walkFrom s base list) (omega arith)
+        ∙ ap (min budget) (zero-add (listsOf (front (walkFrom s base list)))))
+
+-- ---- "For a subkey count from 1 to 1,048,576 and a budget up to 65,536, the subkey walk succeeds exactly when .."
+
+tally-counts : (es : List Event) → tally none es ≡ countsOf es
+tally-counts es = counts-path (zero-add _) (zero-add _) (zero-add _)
+
+module _ (s : List ℕ) (base count list budget room : ℕ) (d : Started count budget) where
+  abbrev reached : List Event
+  reached = walkFrom s base list
+
+  -- if, with the counts of all lists reached
+  pub succeeds-if : Met s base list budget room → answerOf s base count list budget room ≡ success (countsOf reached)
+  unfolding inRoom
+  succeeds-if m =
+      let b : listsOf reached ≤ budget = m .within in
+      answer-walk s base count list budget room d
+      ∙ ap (inRoom room) (judge-all budget none reached (fine-good s base 8 list (m .fine)) (omega arith) ∙ ap success (tally-counts reached))
+      ∙ rw (le-ltb room (length (keptOf reached)) (m .fits))
+
+  -- and only if, again with their counts
+  pub record Why (t : Counts) : Type 0 where
+    pub met : Met s base list budget room
+    pub counts : t ≡ countsOf reached
+    pub all-read : t .lists ≡ length reached
+
+  pub succeeds-only : (t : Counts) → answerOf s base count list budget room ≡ success t → Why t
+  succeeds-only t q =
+      let w = room-success room (judge budget none reached) t (sym (answer-walk s base count list budget room d) ∙ q) in
+      let g = all-judge budget none reached t (omega arith) (w .0) in
+      let b : 0 + listsOf reached ≤ budget = g .1 in
+      let c : t ≡ countsOf reached = same-success (sym (w .0) ∙ judge-all budget none reached (g .0) (g .1)) ∙ tally-counts reached in
+      let k : t .kept ≡ length (keptOf reached) = ap (λ (v : Counts). v .kept) c in
+      let r : t .kept ≤ room = w .1 in
+      record {
+        met = record { fine = good-fine s base 8 list (g .0); within = omega arith; fits = omega arith };
+        counts = c;
+        all-read = ap (λ (v : Counts). v .lists) c ∙ lists-all reached (g .0);
+      }
+
+  -- "If it succeeds and no list reached is empty, that number is at most 8 times the entries of all leaf lists reached"
+  pub lists-few : (t : Counts) → answerOf s base count list budget room ≡ success t → All Full reached → t .lists ≤ 8 * entriesOf reached
+  lists-few t q f =
+      let w = succeeds-only t q in
+      let m = trace-dense _ 8 s base list (fine-good s base 8 list (w .met .fine)) f .many in
+      omega (arith, w .all-read)
+
+-- ---- of the answer itself: any answer `r` and any buffer `new` that the contract of `sub_keys` allows
+
+-- an answer by its paper
+read-paper : {r : WalkAnswer} {t : Counts} → r ≡ Read t → walkPaper r ≡ success t
+read-paper q = ap walkPaper q
+
+-- every answer reports the definition's number of lists, and a refusal changes no place: for every input
+pub answer-lists : {s : List ℕ} {base count list budget : ℕ} {old : List ℕ} {r : WalkAnswer} {new : List ℕ}
+    → Answered s base count list budget old r new → listsBy (walkPaper r) ≡ listsRead s base count list budget
+answer-lists {s} {base} {count} {list} {budget} {old} x = ap listsBy (x .answer) ∙ lists-reported s base count list budget (length old)
+
+refused-buffer : (a : Paper Counts) (t : Told) (ks old : List ℕ) → a ≡ refused t → bufferAfter a ks old ≡ old
+unfolding bufferAfter
+refused-buffer a t ks old e = rw e
+
+success-buffer : (a : Paper Counts) (t : Counts) (ks old : List ℕ) → a ≡ success t → bufferAfter a ks old ≡ ks ++ drop (length ks) old
+unfolding bufferAfter
+success-buffer a t ks old e = rw e
+
+pub refusal-untouched : {s : List ℕ} {base count list budget : ℕ} {old : List ℕ} {r : WalkAnswer} {new : List ℕ}
+    → Answered s base count list budget old r new → (f : WalkRefusal) → r ≡ Refused f → new ≡ old
+refusal-untouched {old = old} x f q = x .buffer ∙ refused-buffer _ (walkTold f) _ old (sym (x .answer) ∙ ap walkPaper q)
+
+-- demand 3
+pub record Demand3 (s : List ℕ) (base count list budget : ℕ) (old : List ℕ) (r : WalkAnswer) (new : List ℕ) : Type 0 where
+  -- "the subkey walk succeeds exactly when .."
+  pub if : Met s base list budget (length old) → Succeeds r
+  pub only-if : Succeeds r → Met s base list budget (length old)
+  -- "Its reported number of lists is the definition's, refused or not"
+  pub reported : listsBy (walkPaper r) ≡ listsRead s base count list budget
+  -- "If it succeeds and no list reached is empty, that number is at most 8 times the entries of all leaf lists reached"
+  pub few : Succeeds r → All Full (walkFrom s base list) → listsBy (walkPaper r) ≤ 8 * entriesOf (walkFrom s base list)
+  -- a success gives the counts of all lists reached, and writes the offsets kept from the first place on
+  pub counts : (t : Counts) → r ≡ Read t → t ≡ countsOf (walkFrom s base list)
+  pub filled : Succeeds r → new ≡ keptOf (walkFrom s base list) ++ drop (length (keptOf (walkFrom s base list))) old
+  -- a refusal changes no place
+  pub untouched : (f : WalkRefusal) → r ≡ Refused f → new ≡ old
+
+pub demand-3 : (s : List ℕ) (base count list budget : ℕ) (old : List ℕ) (r : WalkAnswer) (new : List ℕ)
+    → Answered s base count list budget old r new → 1 ≤ count → count ≤ 1048576 → budget ≤ 65536 → Demand3 s base count list budget old r new
+demand-3 s base count list budget old r new x some few small = record {
+  if = λ m. record { counts = countsOf (walkFrom s base list); is = paper-read r _ (x .answer ∙ succeeds-if s base count list budget (length old) d m) };
+  only-if = λ y. why y .met;
+  reported = answer-lists x;
+  few = λ y f. rw (read-paper (y .is)) (lists-few s base count list budget (length old) d (y .counts) (answer y) f);
+  counts = λ t q. why (record { counts = t; is = q }) .counts;
+  filled = λ y. x .buffer ∙ success-buffer _ (y .counts) _ old (answer y)
+      ∙ ap (λ (ks : List ℕ). ks ++ drop (length ks) old) (kept-walk s base count list (d .some));
+  untouched = λ f q. refusal-untouched x f q;
+}
+  where
+    d : Started count budget
+    d = record { small = small; few = few; some = λ z. omega arith }
+
+    answer : (y : Succeeds r) → answerOf s base count list budget (length old) ≡ success (y .counts)
+    answer y = sym (x .answer) ∙ read-paper (y .is)
+
+    why : (y : Succeeds r) → Why s base count list budget (length old) d (y .counts)
+    why y = succeeds-only s base count list budget (length old) d (y .counts) (answer y)

@@ -1,0 +1,8 @@
+-- What several proofs use, demand 3 (`Demand`), and document 01's examples (`Examples`).
+pub mod Walks
+pub mod Papers
+pub mod Answers
+pub mod Judged
+pub mod Traces
+pub mod Demand
+pub mod Examples

@@ -1,0 +1,188 @@
+-- What the lists of a trace are. Assumes nothing.
+use mathlib.Core.Path.{_≡_, refl, ap, sym, subst, _∙_}
+use mathlib.Core.List.{List, [], _∷_, _++_}
+use mathlib.Core.Bool.{Bool, true, false, cond}
+use Prim.Native.Nat.{ℕ, zero, suc, _+_, _-_, _*_, _≤_, _<_}
+use native.Mathlib.Nat.{suc-mul, mul-add}
+use native.Mathlib.Omega.{arith}
+use borrow.Author.Tests.{eq-eqb, ne-eqb, le-ltb, eqb-true, eqb-false, ltb-false}
+use lib.Dec.{eqb, ltb}
+use lib.ListN.{length, length-append}
+use Rattle.words.specs.Words.{word32}
+use Rattle.words.specs.Refusals.{OUTSIDE, BAD-SIGN, CUT-SHORT}
+use Rattle.words.specs.Paper.{Told, Paper, success, refused, by}
+use Rattle.words.proofs.Papers.{success-refused}
+use Rattle.sub_key_list.specs.Lists.{LF, LH, LI, RI, entrySize, Listed, ofKind, kindAt, countAt, listAt, leafKept}
+use Rattle.sub_key_list.specs.Lists as lists
+use Rattle.sub_key_walk.specs.Trace.{Event, deep, bad, index, leaf, each, below, trace, ordinary, entriesIn, entriesOf}
+use Rattle.sub_key_walk.specs.Free.{All, Known, is-lf, is-lh, is-li, is-ri, Readable, Fine, Full}
+use Rattle.sub_key_walk.proofs.Judged.{Good}
+
+-- ---- the kinds with a size are the known ones
+
+known-sized : (kind : ℕ) → Known kind → entrySize kind ≡ 0 → ⊥
+unfolding entrySize
+known-sized kind (is-lf e) z = let x : entrySize LF ≡ 0 = ap entrySize (sym e) ∙ z in omega arith
+known-sized kind (is-lh e) z = let x : entrySize LH ≡ 0 = ap entrySize (sym e) ∙ z in omega arith
+known-sized kind (is-li e) z = let x : entrySize LI ≡ 0 = ap entrySize (sym e) ∙ z in omega arith
+known-sized kind (is-ri e) z = let x : entrySize RI ≡ 0 = ap entrySize (sym e) ∙ z in omega arith
+
+sized-known : (kind : ℕ) → (entrySize kind ≡ 0 → ⊥) → Known kind
+unfolding entrySize
+sized-known kind h = go (eqb kind LF) (eqb kind LH) (eqb kind LI) (eqb kind RI) refl refl refl refl
+  where
+    go : (a b c d : Bool) → eqb kind LF ≡ a → eqb kind LH ≡ b → eqb kind LI ≡ c → eqb kind RI ≡ d → Known kind
+    go true b c d p q r s = is-lf (eqb-true _ _ p)
+    go false true c d p q r s = is-lh (eqb-true _ _ q)
+    go false false true d p q r s = is-li (eqb-true _ _ r)
+    go false false false true p q r s = is-ri (eqb-true _ _ s)
+    go false false false false p q r s = absurd (h (rw (p, q, r, s)))
+
+-- ---- a list can be read exactly when it is no refusal
+
+module _ (s : List ℕ) (p : ℕ) where
+  readable-list : Readable s p → listAt s p ≡ success (ofKind (kindAt s p) (countAt s p))
+  unfolding listAt
+  readable-list r =
+      let h = r .header in
+      let e = r .entries in
+      rw (
+        le-ltb (length s) p (omega arith),
+        le-ltb (length s - p) 8 (omega arith),
+        ne-eqb _ _ (known-sized (kindAt s p) (r .known)),
+        le-ltb (length s - p - 8) (entrySize (kindAt s p) * countAt s p) (omega arith),
+      )
+
+  refused-unread : (t : Told) → listAt s p ≡ refused t → Readable s p → ⊥
+  refused-unread t e d = success-refused (sym (readable-list d) ∙ e)
+
+  abbrev NotRefused : Paper Listed → Type 0
+  NotRefused (success l) = Unit {0}
+  NotRefused (refused t) = ⊥
+
+  read-readable : NotRefused (listAt s p) → Readable s p
+  unfolding listAt
+  read-readable n = go _ _ _ _ refl refl refl refl n
+    where
+      go : (a b c d : Bool) → ltb (length s) p ≡ a → ltb (length s - p) 8 ≡ b → eqb (entrySize (kindAt s p)) 0 ≡ c
+          → ltb (length s - p - 8) (entrySize (kindAt s p) * countAt s p) ≡ d → NotRefused (listAt s p) → Readable s p
+      go true b c d e f g k n = absurd (rw e at n)
+      go false true c d e f g k n = absurd (rw (e, f) at n)
+      go false false true d e f g k n = absurd (rw (e, f, g) at n)
+      go false false false true e f g k n = absurd (rw (e, f, g, k) at n)
+      go false false false false e f g k n =
+          let x : p ≤ length s = ltb-false _ _ e in
+          let y : 8 ≤ length s - p = ltb-false _ _ f in
+          let z : entrySize (kindAt s p) * countAt s p ≤ length s - p - 8 = ltb-false _ _ k in
+          record { header = omega arith; known = sized-known (kindAt s p) (eqb-false _ _ g); entries = omega arith }
+
+-- ---- all lists of a trace
+
+module _ (P : Event → Type 0) where
+  all-append : (xs ys : List Event) → All P (xs ++ ys) → All P xs × All P ys
+  unfolding All
+  all-append [] ys a = (tt, a)
+  all-append (x ∷ xs) ys a = let r = all-append xs ys (a .1) in ((a .0, r .0), r .1)
+
+  append-all : (xs ys : List Event) → All P xs → All P ys → All P (xs ++ ys)
+  unfolding All
+  append-all [] ys a b = b
+  append-all (x ∷ xs) ys a b = (a .0, append-all xs ys (a .1) b)
+
+-- the event of a list, by what stands there
+abbrev eventOf : List ℕ → ℕ → ℕ → Paper Listed → Event
+eventOf s base p (success (lists.leaf k z n)) = leaf p z n (leafKept s base z n (p + 8))
+eventOf s base p (success (lists.index n)) = index p n
+eventOf s base p (refused t) = bad (t .number) p
+
+-- what goes over from P to Q at each list goes over for a whole trace
+module _ (P Q : Event → Type 0) (s : List ℕ) (base : ℕ) (d : (p : ℕ) → P (deep p) → Q (deep p))
+    (v : (p : ℕ) (h : Paper Listed) → listAt s p ≡ h → P (eventOf s base p h) → Q (eventOf s base p h)) where
+  each-imp : (f : ℕ → List Event) → ((o : ℕ) → All P (f o) → All Q (f o)) → (k pos : ℕ) → All P (each f s k pos) → All Q (each f s k pos)
+  unfolding each All
+  each-imp f g zero pos a = tt
+  each-imp f g (suc k) pos a =
+      let b = all-append P (f _) (each f s k (pos + 4)) a in
+      append-all Q (f _) (each f s k (pos + 4)) (g _ (b .0)) (each-imp f g k (pos + 4) (b .1))
+
+  below-imp : (f : ℕ → List Event) → ((o : ℕ) → All P (f o) → All Q (f o)) → (p : ℕ) (h : Paper Listed) → listAt s p ≡ h
+      → All P (below f s base p h) → All Q (below f s base p h)
+  unfolding below All
+  below-imp f g p (success (lists.leaf k z n)) e a = (v p (success (lists.leaf k z n)) e (a .0), tt)
+  below-imp f g p (success (lists.index n)) e a = (v p (success (lists.index n)) e (a .0), each-imp f g n (p + 8) (a .1))
+  below-imp f g p (refused t) e a = (v p (refused t) e (a .0), tt)
+
+  trace-imp : (levels o : ℕ) → All P (trace (ordinary s) levels s base o) → All Q (trace (ordinary s) levels s base o)
+  unfolding trace All
+  trace-imp zero o a = (d (o + base) (a .0), tt)
+  trace-imp (suc l) o a = below-imp (trace (ordinary s) l s base) (λ x. trace-imp l x) (o + base) (listAt s (o + base)) refl a
+
+module _ (s : List ℕ) (base : ℕ) where
+  good-fine-at : (p : ℕ) (h : Paper Listed) → listAt s p ≡ h → Good (eventOf s base p h) → Fine s (eventOf s base p h)
+  unfolding Fine
+  good-fine-at p (success (lists.leaf k z n)) e g = read-readable s p (rw e tt)
+  good-fine-at p (success (lists.index n)) e g = read-readable s p (rw e tt)
+  good-fine-at p (refused t) e g = absurd g
+
+  fine-good-at : (p : ℕ) (h : Paper Listed) → listAt s p ≡ h → Fine s (eventOf s base p h) → Good (eventOf s base p h)
+  unfolding Fine
+  fine-good-at p (success (lists.leaf k z n)) e g = tt
+  fine-good-at p (success (lists.index n)) e g = tt
+  fine-good-at p (refused t) e g = refused-unread s p t e g
+
+  fine-deep : (p : ℕ) → Fine s (deep p) → Good (deep p)
+  unfolding Fine
+  fine-deep p g = g
+
+  pub good-fine : (levels o : ℕ) → All Good (trace (ordinary s) levels s base o) → All (Fine s) (trace (ordinary s) levels s base o)
+  good-fine = trace-imp Good (Fine s) s base (λ p g. absurd g) good-fine-at
+
+  pub fine-good : (levels o : ℕ) → All (Fine s) (trace (ordinary s) levels s base o) → All Good (trace (ordinary s) levels s base o)
+  fine-good = trace-imp (Fine s) Good s base fine-deep fine-good-at
+
+-- ---- at most as many lists to a leaf entry as there are levels
+
+entries-append : (xs ys : List Event) → entriesOf (xs ++ ys) ≡ entriesOf xs + entriesOf ys
+unfolding entriesOf
+entries-append [] ys = omega arith
+entries-append (x ∷ xs) ys = omega (arith, entries-append xs ys)
+
+-- a row of lists has so many entries, and at most l lists for each
+pub record Dense (l least : ℕ) (es : List Event) : Type 0 where
+  pub some : least ≤ entriesOf es
+  pub many : length es ≤ l * entriesOf es
+
+leaf-dense : (l p z n : ℕ) (ks : List ℕ) → 0 < n → Dense (suc l) 1 (leaf p z n ks ∷ [])
+unfolding entriesOf entriesIn
+leaf-dense l p z n ks h = record { some = omega arith; many = omega (arith, suc-mul l (n + 0)) }
+
+index-dense : (l p n : ℕ) (es : List Event) → 0 < n → Dense l n es → Dense (suc l) 1 (index p n ∷ es)
+unfolding entriesOf entriesIn
+index-dense l p n es h d = record { some = omega arith; many = omega (arith, suc-mul l (0 + entriesOf es), mul-add l 0 (entriesOf es)) }
+
+append-dense : (l a b : ℕ) (xs ys : List Event) → Dense l a xs → Dense l b ys → Dense l (a + b) (xs ++ ys)
+append-dense l a b xs ys d e =
+    let n = entries-append xs ys in
+    record { some = omega arith; many = rw n (omega (arith, length-append xs ys, mul-add l (entriesOf xs) (entriesOf ys))) }
+
+module _ (l : ℕ) (f : ℕ → List Event) (s : List ℕ) (g : (o : ℕ) → All Good (f o) → All Full (f o) → Dense l 1 (f o)) where
+  each-dense : (k pos : ℕ) → All Good (each f s k pos) → All Full (each f s k pos) → Dense l k (each f s k pos)
+  unfolding each entriesOf
+  each-dense zero pos a b = record { some = omega arith; many = omega arith }
+  each-dense (suc k) pos a b =
+      let x = all-append Good (f _) (each f s k (pos + 4)) a in
+      let y = all-append Full (f _) (each f s k (pos + 4)) b in
+      subst (λ (n : ℕ). Dense l n (f (word32 s pos) ++ each f s k (pos + 4))) (omega arith)
+      (append-dense l 1 k (f _) (each f s k (pos + 4)) (g _ (x .0) (y .0)) (each-dense k (pos + 4) (x .1) (y .1)))
+
+  below-dense : (base p : ℕ) (h : Paper Listed) → All Good (below f s base p h) → All Full (below f s base p h) → Dense (suc l) 1 (below f s base p h)
+  unfolding below All Full
+  below-dense base p (success (lists.leaf k z n)) a b = leaf-dense l p z n _ (b .0)
+  below-dense base p (success (lists.index n)) a b = index-dense l p n _ (b .0) (each-dense n (p + 8) (a .1) (b .1))
+  below-dense base p (refused t) a b = absurd (a .0)
+
+pub trace-dense : (hd : ℕ → ℕ → Paper Listed) (levels : ℕ) (s : List ℕ) (base o : ℕ) → All Good (trace hd levels s base o) → All Full (trace hd levels s base o)
+    → Dense levels 1 (trace hd levels s base o)
+unfolding trace All
+trace-dense hd zero s base o a b = absurd (a .0)
+trace-dense hd (suc l) s base o a b = below-dense l (trace hd l s base) s (λ x. trace-dense hd l s base x) base (o + base) (hd (suc l) (o + base)) a b

@@ -1,0 +1,41 @@
+-- What a walk with a budget makes of the lists that it reaches: the counts, or the first fault in walk order (document 01, "The
+-- subkey walk").
+use Prim.Native.Nat.{ℕ, _+_}
+use mathlib.Core.List.{List, [], _∷_}
+use mathlib.Core.Bool.{cond}
+use lib.Dec.{eqb}
+use lib.ListN.{length}
+use Rattle.words.specs.Refusals.{TOO-DEEP, OUT-OF-STEPS}
+use Rattle.words.specs.Paper.{Told, Paper, success, refused}
+use Rattle.sub_key_walk.specs.Trace.{Event, deep, bad, index, leaf, keptIn, listsIn, entriesIn}
+use Rattle.sub_key_walk.specs.declared.Counts.{Counts}
+
+-- "A refusal returns its number, the position of the list .. at fault .. and, from the walk, the lists read so far. Other fields
+-- are 0"
+abbrev pub fault : ℕ → ℕ → ℕ → Told
+fault n p l = record { number = n; position = p; lists = l; places = 0; entries = 0 }
+
+-- "Then it counts as read": the counts with one list more
+unfoldable pub counted : Counts → Event → Counts
+counted st e =
+    record { kept = st .kept + length (keptIn e); lists = st .lists + listsIn e; entries = st .entries + entriesIn e }
+
+-- 15: "another list is reached when the lists read equal the budget"
+unfoldable pub inBudget : ℕ → Counts → ℕ → Paper Counts → Paper Counts
+inBudget budget st p a = cond (eqb (st .lists) budget) (refused (fault OUT-OF-STEPS p (st .lists))) a
+
+-- "On reaching a list ..: 14, 15", then the list's own refusal, else it counts as read
+unfoldable pub one : ℕ → Counts → Event → Paper Counts
+one budget st (deep p) = refused (fault TOO-DEEP p (st .lists))
+one budget st (bad n p) = inBudget budget st p (refused (fault n p (st .lists)))
+one budget st (index p n) = inBudget budget st p (success (counted st (index p n)))
+one budget st (leaf p z n ks) = inBudget budget st p (success (counted st (leaf p z n ks)))
+
+-- "The first fault in walk order is the refusal"
+unfoldable pub after : Paper Counts → (Counts → Paper Counts) → Paper Counts
+after (success st) f = f st
+after (refused t) f = refused t
+
+unfoldable pub judge : ℕ → Counts → List Event → Paper Counts
+judge budget st [] = success st
+judge budget st (e ∷ es) = after (one budget st e) (λ st′. judge budget st′ es)

@@ -1,0 +1,5 @@
+pub mod Trace
+pub mod Judge
+pub mod Answers
+pub mod Free
+pub mod Walk

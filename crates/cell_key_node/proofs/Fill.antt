@@ -2,10 +2,12 @@
 use mathlib.Core.Path.{_≡_, refl, sym, ap, _∙_}
 use mathlib.Core.List.{List, [], _∷_, _++_}
 use Prim.Native.Nat.{ℕ, zero, suc, _+_, _<_}
+use native.Mathlib.Nat.{not-suc-le-zero}
+use native.Mathlib.Decide.{ℕ-discrete}
 use native.Mathlib.Numerals.{add-one}
 use native.Mathlib.Omega.{arith}
-use lib.ListN.{length, getD, set, drop, length-append}
-use lib.Seq.{drop-cons, set-at, append-snoc}
+use lib.ListN.{length, getD, set, drop, length-append, List·getD-append}
+use lib.Seq.{drop-cons, set-at, getD-at, append-snoc}
 use Rattle.cell_key_node.specs.ValueList.{upTo}
 
 pub up-length : (f : ℕ → ℕ) (n : ℕ) → length (upTo f n) ≡ n
@@ -24,3 +26,15 @@ filled-more f n d h =
     (ap (λ (t : List ℕ). set (upTo f n ++ t) n (f n)) (drop-cons d n 0 h)
     ∙ set-at (upTo f n) (getD d n 0) (drop (suc n) d) (f n) n (up-length f n)
     ∙ sym (append-snoc (upTo f n) (f n) (drop (suc n) d)))
+
+pub up-at : (f : ℕ → ℕ) (n i : ℕ) → i < n → getD (upTo f n) i 0 ≡ f i
+unfolding upTo
+up-at f zero i h = absurd (not-suc-le-zero h)
+up-at f (suc n) i h = last-or-before (ℕ-discrete i n) (up-at f n i)
+  where
+    last-or-before : Dec (i ≡ n) → (i < n → getD (upTo f n) i 0 ≡ f i) → getD (upTo f n ++ (f n ∷ [])) i 0 ≡ f i
+    last-or-before (yes e) before = rw e (getD-at (upTo f n) (f n) [] 0 n (up-length f n))
+    last-or-before (no e) before =
+        let l : i < n = omega arith in
+        let k : i < length (upTo f n) = rw (up-length f n) l in
+        List·getD-append (upTo f n) (f n ∷ []) 0 i k ∙ before l

@@ -1,5 +1,5 @@
-// Key records: the record at a position, its name and its slack as parts of the image, and its value list. The checks of a
-// record are shared with the value records.
+// Key records: the record at a position, its name and its slack as parts of the image, its value list, and its subkeys. The
+// checks of a record are shared with the value records.
 ghost use mathlib.Core.Path.{_≡_};
 ghost use Prim.Native.Nat.{_≤_};
 ghost use mathlib.Core.List.{_++_};
@@ -7,6 +7,8 @@ ghost use lib.ListN.{length, drop};
 ghost use Rattle.cell_key_node.specs.Records.{sizeOf, cellFault, faultAt};
 ghost use Rattle.cell_key_node.specs.Key.{keyOf, keyAt, keyPaper, keyName, keySlack};
 ghost use Rattle.cell_key_node.specs.ValueList.{placeOf, placePaper, upTo, entryOf, Answered};
+ghost use Rattle.sub_key_walk.specs.Answers.{Answered as Walked};
+use sub_key_walk::WalkAnswer;
 use words::Refusal;
 
 // The fixed part of a key record, its signature "nk", and the place of its name's length.
@@ -222,22 +224,22 @@ pub fn value_list_place(image: &[u8], base: u32, count: u32, offset: i32) -> Pla
             position: 0,
         });
     }
-    let position = relative + base as usize;
-    if image.len() < position {
+    let place = relative + base as usize;
+    if image.len() < place {
         return PlaceAnswer::Refused(Refusal {
             number: words::OUTSIDE,
-            position: position,
+            position: place,
         });
     }
     let entries = 4 * (count as usize);
-    let end = position + 4 + entries;
+    let end = place + 4 + entries;
     if image.len() < end {
         return PlaceAnswer::Refused(Refusal {
             number: words::CUT_SHORT,
-            position: position,
+            position: place,
         });
     }
-    PlaceAnswer::Place(position)
+    PlaceAnswer::Place(place)
 }
 
 // The entries of a list, as stored, into the first places of `out`.
@@ -294,4 +296,13 @@ pub fn value_list_of(image: &[u8], base: u32, key: KeyNode, out: &mut [u32]) -> 
     let count = key.number_of_key_values;
     let offset = key.key_values_list_offset_relative;
     value_list(image, base, count, offset, out)
+}
+
+// The subkeys of a key record, from the record: the walk of its list, within a budget of lists, into `out`.
+pub fn sub_keys_of(image: &[u8], base: u32, key: KeyNode, budget: u32, out: &mut [u32]) -> WalkAnswer
+    ensures { λ r. ⌜ Walked (now (image .entry)) base (key .«number_of_sub_keys») (key .«sub_keys_list_offset_relative») budget (now (out .entry)) r (now (out .exit)) ⌝ }
+{
+    let count = key.number_of_sub_keys;
+    let list = key.sub_keys_list_offset_relative;
+    sub_key_walk::sub_keys(image, base, count, list, budget, out)
 }

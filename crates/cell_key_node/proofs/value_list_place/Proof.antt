@@ -34,8 +34,8 @@ returns-3 c =
     let e = c .before .before .before .above-zero .ensures ∙ ap aboveZero (back (c .before .before .before .before .before .args .offset) (c .before .before .before .before .before .fits .offset)) in
     simp (← e, ne-eqb _ _ (c .before .before .if1 .left), lt-leb _ _ (c .before .if2 .left), lt-ltb _ _ (c .if3 .taken))
 
-add-position : tie.Need-add-position
-add-position c = search needs
+add-place : tie.Need-add-place
+add-place c = search needs
 
 returns-4 : tie.Need-returns-4
 unfolding placeOf
@@ -73,7 +73,7 @@ value-list-place-spec =
     returns
     returns-2
     returns-3
-    add-position
+    add-place
     returns-4
     mul-entries
     add-end

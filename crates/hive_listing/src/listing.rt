@@ -98,14 +98,7 @@ fn offset_lines(out: &[u32], n: u32) {
 
 fn list_keys(image: &[u8], root: KeyNode) {
     let mut out = [0u32; 4096];
-    match sub_key_walk::sub_keys(
-        image,
-        BASE,
-        root.number_of_sub_keys,
-        root.sub_keys_list_offset_relative,
-        BUDGET,
-        &mut out,
-    ) {
+    match cell_key_node::sub_keys_of(image, BASE, root, BUDGET, &mut out) {
         WalkAnswer::Refused(f) => refused(f.number),
         WalkAnswer::Read(c) => {
             keys_line(c);

@@ -1,3 +1,5 @@
+use native.Mathlib.Omega.{arith}
+use lib.ListN.{length-take}
 use Rattle.sub_key_walk.proofs.Answers.{answered-budget, answered-many, answered-none, answered-refused, answered-room, answered-read}
 use borrow.Author.Needs.{needs}
 use Rattle.sub_key_walk.proofs.sub_keys.Statement.{statement}
@@ -34,7 +36,7 @@ slice-relend-prefix-walk c = search needs
 
 -- src/lib.rt:159:57
 slice-aggregate-walk : tie.Need-slice-aggregate-walk
-slice-aggregate-walk c = search needs
+slice-aggregate-walk c = simp length-take (omega arith)
 
 -- src/lib.rt:159:11
 walk-requires : tie.Need-walk-requires

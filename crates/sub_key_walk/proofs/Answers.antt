@@ -1,6 +1,6 @@
 -- The answers of the walk from a key record, each from what its code has found. Assumes nothing.
 use mathlib.Core.Path.{_≡_, refl, ap, sym, _∙_}
-use mathlib.Core.List.{List, [], _++_}
+use mathlib.Core.List.{List, [], _∷_, _++_}
 use Prim.Native.Nat.{ℕ, _+_, _≤_, _<_}
 use native.Mathlib.Nat.{zero-add}
 use native.Mathlib.Omega.{arith}
@@ -62,26 +62,32 @@ in-room : (s : List ℕ) (base count list budget room : ℕ) → Started count b
     → b ≡ answerOf s base count list budget room
 in-room s base count list budget room d a b q e = sym e ∙ ap (inRoom room) (sym q) ∙ sym (answer-walk s base count list budget room d)
 
--- the measuring walk, over a buffer of its own
+-- a part with no places, and what stands behind it
+no-part : (part old : List ℕ) → length part ≡ 0 → part ++ old ≡ old
+no-part [] old h = refl
+no-part (x ∷ part) old h = absurd (let z : ⊥ = omega arith in z)
+
+-- the measuring walk, over a part of the buffer that has no places: then the buffer holds what it held
 module _ {s : List ℕ} {base count list budget : ℕ} {old : List ℕ} (d : Started count budget) {o o′ : List ℕ} {w : WalkAnswer}
-    (k : Walk budget none (walkFrom s base list) o w o′) where
-  pub answered-refused : {f : WalkRefusal} → w ≡ Refused f → Answered s base count list budget old (Refused f) old
+    (k : Walk budget none (walkFrom s base list) o w o′) (empty : length o′ ≡ 0) where
+  pub answered-refused : {f : WalkRefusal} → w ≡ Refused f → Answered s base count list budget old (Refused f) (o′ ++ old)
   unfolding inRoom bufferAfter
-  answered-refused {f} q = answered (refused (walkTold f)) refl (in-room s base count list budget (length old) d (refused (walkTold f)) _ (sym (k .answer) ∙ ap walkPaper q) refl) refl
+  answered-refused {f} q =
+      answered (refused (walkTold f)) refl (in-room s base count list budget (length old) d (refused (walkTold f)) _ (sym (k .answer) ∙ ap walkPaper q) refl) (no-part o′ old empty)
 
-  pub answered-room : {t : Counts} → w ≡ Read t → length old < t .kept → {r : WalkAnswer} → walkPaper r ≡ refused (noRoom t) → Answered s base count list budget old r old
+  pub answered-room : {t : Counts} → w ≡ Read t → length old < t .kept → {r : WalkAnswer} → walkPaper r ≡ refused (noRoom t) → Answered s base count list budget old r (o′ ++ old)
   unfolding inRoom bufferAfter
-  answered-room {t} q f p = answered (refused (noRoom t)) p (in-room s base count list budget (length old) d (success t) _ (walk-success k q) (rw (lt-ltb (length old) (t .kept) f))) refl
+  answered-room {t} q f p =
+      answered (refused (noRoom t)) p (in-room s base count list budget (length old) d (success t) _ (walk-success k q) (rw (lt-ltb (length old) (t .kept) f))) (no-part o′ old empty)
 
-  -- the filling walk, over the caller's buffer
-  pub answered-read : {t : Counts} → w ≡ Read t → t .kept ≤ length old → {r : WalkAnswer} {new : List ℕ} → Walk budget none (walkFrom s base list) old r new
-      → Answered s base count list budget old r new
+  -- the filling walk, over the whole buffer
+  pub answered-read : {t : Counts} → w ≡ Read t → t .kept ≤ length old → {v : WalkAnswer} {new : List ℕ} → Walk budget none (walkFrom s base list) (o′ ++ old) v new
+      → Answered s base count list budget old (Read t) new
   unfolding inRoom bufferAfter
-  answered-read {t} q f {r} {new} z =
+  answered-read {t} q f {v} {new} z =
       let ks : List ℕ = keptOf (walkFrom s base list) in
-      let whole : walkPaper r ≡ success t = z .answer ∙ sym (k .answer) ∙ ap walkPaper q in
       let n : t .kept ≡ 0 + length ks = judge-kept budget none (walkFrom s base list) t (walk-success k q) in
-      answered (success t) whole
+      answered (success t) refl
       (in-room s base count list budget (length old) d (success t) _ (walk-success k q) (rw (le-ltb (length old) (t .kept) f)))
-      (z .written t (paper-read r t whole) ∙ sets-front ks old (omega arith)
+      (z .written t (paper-read v t (z .answer ∙ walk-success k q)) ∙ ap (λ (x : List ℕ). sets x 0 ks) (no-part o′ old empty) ∙ sets-front ks old (omega arith)
       ∙ ap (λ (x : List ℕ). x ++ drop (length x) old) (sym (kept-walk s base count list (d .some))))

@@ -128,8 +128,8 @@ fn walk(
     }
 }
 
-// The subkeys of a key record with a subkey count and the offset of its list. The walk is measured first, with no buffer, and
-// `out` is filled after: a refusal leaves it as it was.
+// The subkeys of a key record with a subkey count and the offset of its list. The walk is measured first, over a part of `out`
+// that has no places, and `out` is filled after: a refusal leaves it as it was.
 pub fn sub_keys(
     image: &[u8],
     base: u32,
@@ -154,15 +154,16 @@ pub fn sub_keys(
     if count == 0 {
         return WalkAnswer::Read(none);
     }
-    let mut nowhere = [0u32; 0];
-    match walk(image, base, budget, LEVELS, list, none, &mut nowhere) {
+    let room = out.len();
+    match walk(image, base, budget, LEVELS, list, none, &mut out[..0]) {
         WalkAnswer::Refused(fault) => WalkAnswer::Refused(fault),
         WalkAnswer::Read(whole) => {
             let kept = whole.kept;
-            if out.len() < (kept as usize) {
+            if room < (kept as usize) {
                 return no_room(whole);
             }
-            walk(image, base, budget, LEVELS, list, none, out)
+            walk(image, base, budget, LEVELS, list, none, out);
+            WalkAnswer::Read(whole)
         }
     }
 }

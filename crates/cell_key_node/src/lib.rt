@@ -299,7 +299,13 @@ pub fn value_list_of(image: &[u8], base: u32, key: KeyNode, out: &mut [u32]) -> 
 }
 
 // The subkeys of a key record, from the record: the walk of its list, within a budget of lists, into `out`.
-pub fn sub_keys_of(image: &[u8], base: u32, key: KeyNode, budget: u32, out: &mut [u32]) -> WalkAnswer
+pub fn sub_keys_of(
+    image: &[u8],
+    base: u32,
+    key: KeyNode,
+    budget: u32,
+    out: &mut [u32],
+) -> WalkAnswer
     ensures { λ r. ⌜ Walked (now (image .entry)) base (key .«number_of_sub_keys») (key .«sub_keys_list_offset_relative») budget (now (out .entry)) r (now (out .exit)) ⌝ }
 {
     let count = key.number_of_sub_keys;

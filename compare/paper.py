@@ -118,7 +118,6 @@ def key_record(image, p):
     s = lambda at: signed(image, p + at)
     # "A negative size means allocated, a positive one free; both read."
     fields = [s(0), int(s(0) < 0), u(6, 2), u(8, 8), u(16), s(20), u(24), u(28), u(32), s(36), u(40), s(44), u(48), s(52),
-    fields = [s(0), u(6, 2), u(8, 8), u(16), s(20), u(24), u(28), u(32), s(36), u(40), s(44), u(48), s(52),
               u(56), u(60), u(64), u(68), u(72), u(76, 2), u(78, 2)]
     # "The name and the slack (from the name's end to the cell's end) are handed back as parts of the caller's image"
     return fields + [hexed(image[p + 80:p + 80 + length])] + summed(image[p + 80 + length:p + size])
@@ -131,7 +130,6 @@ def value_record(image, p):
     u = lambda at, width=4: unsigned(image, p + at, width)
     size = signed(image, p)
     return [size, int(size < 0), u(6, 2), u(8), u(12), u(16), u(20, 2)], image[p + 24:p + 24 + length]
-    return [signed(image, p), u(6, 2), u(8), u(12), u(16), u(20, 2)], image[p + 24:p + 24 + length]
 
 
 # ---- "Value lists and lookup"
@@ -180,7 +178,6 @@ def lookup(image, count, offset, base, name):
         fields, stored = value_record(image, position)
         # "A stored name matches if both lengths are 0, or if flag 0001 is set and the bytes are equal after ASCII lower case only."
         if len(stored) == 0 and len(name) == 0 or fields[6] & 1 and lower(stored) == lower(name):
-        if len(stored) == 0 and len(name) == 0 or fields[5] & 1 and lower(stored) == lower(name):
             # "A match gives the record and its position"
             return [position] + fields
     # 16: "every record reads and none matches"; "Count 0 is NOT FOUND."

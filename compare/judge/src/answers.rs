@@ -114,7 +114,8 @@ fn base_block(image: &[u8], form: Form) -> String {
     if undone {
         let times = [12, 568].iter().all(|&at| u64_at(image, at).is_some_and(time_kept));
         let name = image.get(48..112).is_some_and(|b| text_kept(b, true));
-        if !(times && name) || r.flags == FileBaseBlockReservedFlags::Unknown { return "- lossy".into(); }
+        let flags = u32_at(image, 544).is_some_and(|x| x <= 2);
+        if !(times && name && flags) { return "- lossy".into(); }
     }
     let at = |t| if undone { filetime(t) } else { time(t) };
     let name = if undone { let mut b = bytes16(&h.filename); b.resize(64, 0); hex(&b) } else { text(&h.filename) };
@@ -187,11 +188,12 @@ fn key(c: &Case, file: &mut FileInfo, form: Form) -> String {
             let d = &k.detail;
             let flags = d.key_node_flag_bits();
             let eight = flags & 0x20 != 0;
-            kept = flags & !KNOWN_KEY_FLAGS == 0 && (eight || text_kept(&image[at + 80..at + 80 + d.key_name_size() as usize], false));
+            let (raw, n) = (u16_at(image, at + 6).unwrap(), u16_at(image, at + 76).unwrap() as usize);
+            kept = raw & !KNOWN_KEY_FLAGS == 0 && (raw & 0x20 != 0 || text_kept(&image[at + 80..at + 80 + n], false));
             let name = if form == Form::Undone { hex(&if eight { bytes8(&k.key_name) } else { bytes16(&k.key_name) }) }
                 else if flags & !KNOWN_KEY_FLAGS == 0 { text(&k.key_name) } else { "S?".into() };
-            format!("ok {} {} {} {} {} {} {} {} {} {} {} {} {} {} {} {} {} {} {} {} {} {}",
-                d.size(), flags, d.last_key_written_date_and_time(), d.access_flag_bits(),
+            format!("ok {} {} {} {} {} {} {} {} {} {} {} {} {} {} {} {} {} {} {} {} {} {} {}",
+                d.size(), !k.is_free() as u8, flags, d.last_key_written_date_and_time(), d.access_flag_bits(),
                 d.parent_key_offset_relative(), d.number_of_sub_keys(), d.number_of_volatile_sub_keys(),
                 d.sub_keys_list_offset_relative(), d.volatile_sub_keys_list_offset_relative(), d.number_of_key_values(),
                 d.key_values_list_offset_relative(), d.security_key_offset_relative(), d.class_name_offset_relative(),
@@ -223,10 +225,11 @@ fn value(c: &Case, file: &FileInfo, form: Form) -> String {
             let d = &v.detail;
             let (flags, n) = (d.flags_raw(), d.value_name_size() as usize);
             let eight = flags & 1 != 0;
-            kept = flags & !KNOWN_VALUE_FLAGS == 0 && (eight || text_kept(&image[at + 24..at + 24 + n], false));
+            let (raw, len) = (u16_at(image, at + 20).unwrap(), u16_at(image, at + 6).unwrap() as usize);
+            kept = raw & !KNOWN_VALUE_FLAGS == 0 && (raw & 1 != 0 || text_kept(&image[at + 24..at + 24 + len], false));
             let name = if form == Form::Undone { hex(&if eight { bytes8(&d.value_name()) } else { bytes16(&d.value_name()) }) }
                 else if flags & !KNOWN_VALUE_FLAGS == 0 { text(&d.value_name()) } else { "S?".into() };
-            format!("ok {} {} {} {} {} {} {}", d.size(), n, d.data_size_raw(), d.data_offset_relative(), d.data_type_raw(), flags, name)
+            format!("ok {} {} {} {} {} {} {} {}", d.size(), !v.is_free() as u8, n, d.data_size_raw(), d.data_offset_relative(), d.data_type_raw(), flags, name)
         }
         _ => "error".into(),
     };

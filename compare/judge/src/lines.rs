@@ -16,8 +16,8 @@ fn fields(tag: &str) -> &'static str {
         "2" => "nntnnyYoYnnnnxfntnnunnngggnnn",
         "4" => "nnnx",
         "5" => "nxxnnx",
-        "6" => "nknnnnnnnnnnnnnnnnnnKnnn",
-        "7" => "nnnnnvV",
+        "6" => "nnknnnnnnnnnnnnnnnnnnKnnn",
+        "7" => "nnnnnnvV",
         "11" => "nxn",
         _ => "n",
     }
@@ -66,57 +66,82 @@ fn convert(line: &str) -> String {
     done.join(" ")
 }
 
-fn function(tag: &str) -> &'static str {
+fn function(tag: u32) -> &'static str {
     match tag {
-        "1" => "checksum",
-        "2" => "base block",
-        "3" => "is_big_data_block",
-        "4" => "value list",
-        "5" => "subkey walk",
-        "6" => "key record",
-        "7" => "value record *",
-        "11" => "one list *",
-        _ => "not in the Rust",
+        1 => "checksum",
+        2 => "base block",
+        3 => "is_big_data_block",
+        4 => "value list",
+        5 => "subkey walk",
+        6 => "key record",
+        7 => "value record *",
+        8 => "lookup",
+        9 => "name hash",
+        10 => "bins and cells",
+        11 => "one list *",
+        12 => "words",
+        _ => "?",
     }
 }
 
-/// Prints the table; true where no case that is compared differs.
-pub fn compare(rust: &str, full: &str) -> bool {
-    let lines = |p: &str| BufReader::new(std::fs::File::open(p).expect(p)).lines().map(|l| l.expect("text"));
-    let (mut one, mut two) = (lines(rust), lines(full));
-    let mut counts: BTreeMap<u32, [u64; 2]> = Default::default(); // per tag: equal, different
-    let mut outside: BTreeMap<(u32, String), [u64; 2]> = Default::default();
+fn lines(p: &str) -> impl Iterator<Item = String> { BufReader::new(std::fs::File::open(p).expect(p)).lines().map(|l| l.expect("text")) }
+
+/// Holds the lines of the Rust and of `paper.py` to the whole lines of the Rattle program. Writes a row for each kind of case: who,
+/// tag, why it is outside ("-": it is compared), equal, different. Shows the first differences on standard error.
+pub fn compare(rust: &str, paper: &str, rattle: &str) {
+    let (mut one, mut two, mut three) = (lines(rust), lines(paper), lines(rattle));
+    let mut counts: BTreeMap<(&str, u32, String), [u64; 2]> = Default::default();
     let (mut index, mut shown) = (0u64, 0);
+    let mut show = |who: &str, index: u64, x: &str, y: &str, mine: &str| {
+        shown += 1;
+        if shown <= 20 { eprintln!("DIFFERS in line {index}\n  {who:<6} {x}\n  Rattle {y}{}", if mine.is_empty() { String::new() } else { format!("\n      as {mine}") }); }
+    };
     loop {
-        let (x, y) = match (one.next(), two.next()) {
-            (Some(x), Some(y)) => (x, y),
-            (None, None) => break,
-            _ => { println!("one output is shorter than the other"); return false; }
+        index += 1;
+        let (x, p, y) = match (one.next(), two.next(), three.next()) {
+            (Some(x), Some(p), Some(y)) => (x, p, y),
+            (None, None, None) => break,
+            _ => {
+                eprintln!("line {index}: one output is shorter than another");
+                counts.entry(("Rust", 0, "-".into())).or_default()[1] += 1;
+                break;
+            }
         };
         let (tag, told) = x.split_once(' ').expect("a line");
-        index += 1;
+        let number: u32 = tag.parse().expect("a tag");
+        counts.entry(("paper", number, "-".into())).or_default()[(p != y) as usize] += 1;
+        if p != y { show("paper", index, &p, &y, ""); }
         let mine = if y.split(' ').next() == Some(tag) { convert(&y) } else { format!("?? {y}") };
-        let number = tag.parse().expect("a tag");
-        if let Some(rest) = told.strip_prefix("- ") {
-            let (why, told) = rest.split_once(' ').unwrap_or((rest, ""));
-            outside.entry((number, why.into())).or_default()[(told != mine) as usize] += 1;
-            continue;
-        }
-        counts.entry(number).or_default()[(told != mine) as usize] += 1;
-        if told != mine && shown < 20 {
-            shown += 1;
-            println!("DIFFERS in line {index}\n  Rust   {x}\n  Rattle {y}\n      as {mine}");
-        }
+        let (why, told) = match told.strip_prefix("- ") { Some(rest) => rest.split_once(' ').unwrap_or((rest, "")), None => ("-", told) };
+        if why == "none" { continue; }
+        counts.entry(("Rust", number, why.into())).or_default()[(told != mine) as usize] += 1;
+        if why == "-" && told != mine { show("Rust", index, &x, &y, &mine); }
     }
-    println!("{:<18} {:>9} {:>9} {:>9}   outside what is compared", "function", "compared", "equal", "different");
-    let mut three = 0;
-    for (tag, c) in &counts {
-        let name = tag.to_string();
-        let why: Vec<String> = outside.iter().filter(|((t, _), _)| t == tag)
-            .map(|((_, w), c)| format!("{w} {}", c[0] + c[1])).collect();
-        println!("{:<18} {:>9} {:>9} {:>9}   {}", function(&name), c[0] + c[1], c[0], c[1], why.join(", "));
-        if (4..=6).contains(tag) { three += c[0] + c[1]; }
+    for ((who, tag, why), c) in &counts { println!("{who} {tag} {why} {} {}", c[0], c[1]); }
+}
+
+/// Adds up the rows that `compare` wrote and prints the table; true where nothing that is compared differs.
+pub fn table() -> bool {
+    let mut counts: BTreeMap<(String, u32, String), [u64; 2]> = Default::default();
+    for l in std::io::stdin().lock().lines().map(|l| l.expect("text")) {
+        let w: Vec<&str> = l.split(' ').collect();
+        let c = counts.entry((w[0].into(), w[1].parse().expect("a tag"), w[2].into())).or_default();
+        for i in 0..2 { c[i] += w[3 + i].parse::<u64>().expect("a number"); }
     }
-    println!("value list, subkey walk and key record together: {three} compared");
-    counts.values().all(|c| c[1] == 0)
+    let mut good = true;
+    for (who, title) in [("Rust", "the Rattle program against the Rust"), ("paper", "the Rattle program against compare/paper.py, whole lines")] {
+        println!("{title}\n{:<18} {:>9} {:>9} {:>9}   outside what 01 compares", "function", "compared", "equal", "different");
+        let (mut three, mut all) = (0, 0);
+        for ((w, tag, why), c) in &counts {
+            if w != who || why != "-" { continue; }
+            let outside: Vec<String> = counts.iter().filter(|((v, t, y), _)| v == who && t == tag && y != "-")
+                .map(|((_, _, y), c)| format!("{y} {}", c[0] + c[1])).collect();
+            println!("{:<18} {:>9} {:>9} {:>9}   {}", function(*tag), c[0] + c[1], c[0], c[1], outside.join(", "));
+            if (4..=6).contains(tag) { three += c[0] + c[1]; }
+            all += c[0] + c[1];
+            good &= c[1] == 0;
+        }
+        println!("{all} compared; value list, subkey walk and key record together: {three}\n");
+    }
+    good
 }

@@ -2,7 +2,8 @@
 //!   judge answers < CASES > RUST        the Rust's answers, times, ids and texts as the Rust converts them
 //!   judge undone < CASES > RUST         the same with these conversions undone, or `- lossy` where they cannot be
 //!   judge unguarded < CASES             the walk with no look ahead: an `ri` that leads back to itself ends the process
-//!   judge compare RUST FULL             FULL: the whole lines of another reader; exit 1 where one that 01 compares differs
+//!   judge compare RUST PAPER RATTLE     holds the Rust's lines and paper.py's to the Rattle program's; writes counts
+//!   judge table < COUNTS                adds up such counts and prints the table; exit 1 where a compared case differs
 #![allow(dead_code, unused_imports, unexpected_cfgs, macro_expanded_macro_exports_accessed_by_absolute_paths)]
 
 // ---- the Rust, unchanged: each module is the supplied file, and nothing but a child module `probe` is added
@@ -47,9 +48,10 @@ fn main() {
         ["answers"] => run(answers::Form::Converted),
         ["undone"] => run(answers::Form::Undone),
         ["unguarded"] => run(answers::Form::Unguarded),
-        ["compare", a, b] => std::process::exit(!lines::compare(a, b) as i32),
+        ["compare", a, b, c] => lines::compare(a, b, c),
+        ["table"] => std::process::exit(!lines::table() as i32),
         _ => {
-            eprintln!("usage: judge answers | undone | unguarded | compare RUST FULL");
+            eprintln!("usage: judge answers | undone | unguarded | compare RUST PAPER RATTLE | table");
             std::process::exit(2)
         }
     }

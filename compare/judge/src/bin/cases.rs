@@ -1,6 +1,9 @@
 //! Writes a stream of cases (compare/README.md):
 //!   cases fixed > CASES                 boundaries, and short inputs exhaustively
 //!   cases hives SEED FILE.. > CASES     hives: all their records and lists, cuts and damaged copies
+//!   cases stored SEED FILE.. > CASES    a share of all of these, to be kept in the repository
+//!   cases stored-rust SEED MARKS FILE.. > CASES   the same of what the Rust has; MARKS: a file with a 1 for each case to keep, 0
+//!                                       for each other, or `-` to keep all
 //!   cases SEED ROUNDS > CASES           random images rich in plausible lists and records, and damaged ones
 //! Same words, same bytes. Uses nothing of the Rust that is tested, and no reading of the paper.
 use std::io::{BufWriter, Write};
@@ -34,49 +37,112 @@ impl Rng {
 // ---- the stream
 
 const IMAGE_MOST: usize = 524_288;
-const ENOUGH: u32 = 4096;
+const ENOUGH: u32 = 1024;
 const BUDGET: u32 = 65536;
 
-struct Out<W: Write> { to: W, words: [u32; 5], known: [bool; 5], cases: u64 }
+/// Writes a stream. What a case needs of words, name and image is held against what the stream's reader has by then, and only
+/// the difference is written: of the image, patches and a length where these are shorter than the whole.
+struct Out<W: Write> {
+    to: W,
+    words: [u32; 5],
+    name: Vec<u8>,
+    has: Vec<u8>,
+    has_length: usize,
+    want: Vec<u8>,
+    want_length: usize,
+    changed: std::ops::Range<usize>,
+    /// of each tag one case in so many is taken (0: none), and of these, where a list is given, those that it marks
+    one_in: [u64; 16],
+    pick: Rng,
+    marked: Option<Vec<u8>>,
+    taken: usize,
+    cases: u64,
+}
 impl<W: Write> Out<W> {
-    /// A case; words that are as before are left out.
+    fn new(to: W, one_in: [u64; 16], seed: u64) -> Self {
+        let none = vec![0; IMAGE_MOST];
+        Out { to, words: [0; 5], name: vec![], has: none.clone(), has_length: 0, want: none, want_length: 0, changed: 0..0, one_in, pick: Rng(seed), marked: None, taken: 0, cases: 0 }
+    }
     fn put(&mut self, tag: u8, words: [u32; 5], name: Option<&[u8]>, image: Option<&[u8]>) {
         let mut mask = 0u8;
         let mut body = Vec::new();
-        for i in 0..5 {
-            if words[i] != self.words[i] || !self.known[i] {
-                mask |= 1 << i;
-                body.extend(words[i].to_le_bytes());
-                self.known[i] = true;
-            }
-        }
+        for i in 0..5 { if words[i] != self.words[i] { mask |= 1 << i; body.extend(words[i].to_le_bytes()); } }
         self.words = words;
-        if let Some(n) = name { mask |= 32; body.extend((n.len() as u32).to_le_bytes()); }
-        if let Some(m) = image { assert!(m.len() <= IMAGE_MOST); mask |= 64; body.extend((m.len() as u32).to_le_bytes()); }
+        for (bit, bytes) in [(32, name), (64, image)] {
+            if let Some(b) = bytes { mask |= bit; body.extend((b.len() as u32).to_le_bytes()); }
+        }
         self.to.write_all(&[tag, mask]).unwrap();
         self.to.write_all(&body).unwrap();
         for b in [name, image].into_iter().flatten() { self.to.write_all(b).unwrap(); }
-        if tag < 100 { self.cases += 1; }
+        if let Some(b) = name { self.name = b.to_vec(); }
+    }
+    /// Runs of the image's bytes that the reader does not have yet; those that lie close together as one.
+    fn runs(&self) -> Vec<(usize, usize)> {
+        let mut runs: Vec<(usize, usize)> = vec![];
+        for at in self.changed.start..self.changed.end.min(self.want_length) {
+            if self.has[at] != self.want[at] {
+                match runs.last_mut() {
+                    Some(r) if at - r.1 < 10 && at - r.0 < 65000 => r.1 = at + 1,
+                    _ => runs.push((at, at + 1)),
+                }
+            }
+        }
+        runs
+    }
+    fn written(&mut self, tag: u8, words: [u32; 5], name: Option<&[u8]>) {
+        let runs = self.runs();
+        let other = self.want_length != self.has_length;
+        let patches: usize = runs.iter().map(|r| 10 + r.1 - r.0).sum::<usize>() + if other { 6 } else { 0 };
+        let mut image = None;
+        let (want, n) = (std::mem::take(&mut self.want), self.want_length);
+        if patches <= 6 + n {
+            for &(from, to) in &runs {
+                let mut w = self.words;
+                w[0] = from as u32;
+                self.put(100, w, Some(&want[from..to]), None);
+                self.has[from..to].copy_from_slice(&want[from..to]);
+            }
+            if other { let mut w = self.words; w[0] = n as u32; self.put(101, w, None, None); }
+        } else {
+            image = Some(&want[..n]);
+            self.has[..n].copy_from_slice(&want[..n]);
+        }
+        self.changed = self.changed.start.max(n)..self.changed.end.max(n);
+        self.has_length = n;
+        let name = name.filter(|b| *b != self.name);
+        self.put(tag, words, name, image);
+        self.want = want;
+        self.cases += 1;
+    }
+    fn takes(&mut self, tag: u8) -> bool {
+        let one_in = self.one_in[tag as usize];
+        if one_in == 0 || one_in > 1 && !self.pick.chance(one_in) { return false; }
+        self.taken += 1;
+        self.marked.as_ref().is_none_or(|m| m[self.taken - 1] == b'1')
+    }
+    fn bytes(&mut self, at: usize, bytes: &[u8]) {
+        let end = at + bytes.len();
+        self.want[at..end].copy_from_slice(bytes);
+        self.changed = if self.changed.is_empty() { at..end } else { self.changed.start.min(at)..self.changed.end.max(end) };
     }
     /// A case with its words; what it does not use stays as it was.
     fn case(&mut self, tag: u8, words: &[u32], image: Option<&[u8]>) {
+        if let Some(m) = image { self.image(m); }
+        if !self.takes(tag) { return; }
         let mut w = self.words;
         w[..words.len()].copy_from_slice(words);
-        self.put(tag, w, None, image);
+        self.written(tag, w, None);
     }
-    fn image(&mut self, image: &[u8]) { self.case(3, &[], Some(image)); }
-    fn patch(&mut self, at: usize, bytes: &[u8]) {
-        let mut w = self.words;
-        w[0] = at as u32;
-        self.put(100, w, Some(bytes), None);
-    }
-    fn length(&mut self, n: usize) { self.case(101, &[n as u32], None); }
+    fn image(&mut self, image: &[u8]) { self.bytes(0, image); self.want_length = image.len(); }
+    fn patch(&mut self, at: usize, bytes: &[u8]) { self.bytes(at, bytes); }
+    fn length(&mut self, n: usize) { self.want_length = n; }
     fn values(&mut self, count: u32, offset: u32, base: u32, room: u32) { self.case(4, &[count, offset, base, room], None); }
     fn walk(&mut self, count: u32, list: u32, base: u32, budget: u32, room: u32) { self.case(5, &[count, list, base, budget, room], None); }
     fn lookup(&mut self, count: u32, offset: u32, base: u32, name: &[u8]) {
+        if !self.takes(8) { return; }
         let mut w = self.words;
         w[..3].copy_from_slice(&[count, offset, base]);
-        self.put(8, w, Some(name), None);
+        self.written(8, w, Some(name));
     }
 }
 
@@ -124,6 +190,14 @@ fn list(m: &mut [u8], p: usize, kind: &[u8; 2], words: &[u32], count: u16) {
     for (i, &x) in words.iter().enumerate() { put32(m, p + 8 + 4 * i, x); }
 }
 
+/// Nothing in a base block that the Rust's conversions lose: times of our days, a whole name, flags that it knows.
+fn proper(r: &mut Rng, m: &mut [u8]) {
+    for at in [12, 568] { let t = 0x01d00000_00000000 + r.below(1 << 52); put64(m, at, t); }
+    let k = r.range(0, 32);
+    for i in 0..32 { put16(m, 48 + 2 * i, if i < k { 0x41 + 257 * i as u16 } else { 0 }); }
+    put32(m, 544, r.pick(&[0, 1, 2]));
+}
+
 fn header(r: &mut Rng, n: usize) -> Vec<u8> {
     let mut m = if r.chance(2) { r.bytes(n) } else { vec![0; n] };
     if n < 512 { return m; }
@@ -133,14 +207,9 @@ fn header(r: &mut Rng, n: usize) -> Vec<u8> {
     put32(&mut m, 28, t);
     let t = r.pick(&[1, 1, 0, 2, 0x0fffffff, u32::MAX, 0x101]);
     put32(&mut m, 32, t);
-    if r.chance(2) { let t = 0x01d00000_00000000 + r.below(1 << 52); put64(&mut m, 12, t); }
-    for i in 0..32 { if r.chance(3) { let x = r.pick(&[0x41u16, 0xd800, 0xdc00, 0xdbff, 0, 0xe9, 0x430, 0xffff]); put16(&mut m, 48 + 2 * i, x); } }
-    if n >= 4096 {
-        let f = r.pick(&[0, 1, 2, 3, 0x0fffffff, u32::MAX]);
-        put32(&mut m, 544, f);
-        if r.chance(2) { let t = 0x01d00000_00000000 + r.below(1 << 52); put64(&mut m, 568, t); }
-        if r.chance(2) { for i in 0..32 { put16(&mut m, 48 + 2 * i, if i < 9 { 0x41 + 257 * i as u16 } else { 0 }); } }
-    }
+    if n >= 4096 { let f = r.pick(&[0, 1, 2, 3, 0x0fffffff, u32::MAX]); put32(&mut m, 544, f); }
+    if n >= 4096 && r.chance(2) { proper(r, &mut m); }
+    else { for i in 0..32 { if r.chance(3) { let x = r.pick(&[0x41u16, 0xd800, 0xdc00, 0xdbff, 0, 0xe9, 0x430, 0xffff]); put16(&mut m, 48 + 2 * i, x); } } }
     let c = if r.chance(3) { r.word() } else { checksum(&m) };
     put32(&mut m, 508, c);
     m
@@ -171,9 +240,9 @@ fn value(m: &mut [u8], p: usize, name: &[u8], flags: u16, size: i32, data: [u32;
     m[p + 24..p + 24 + n].copy_from_slice(&name[..n]);
 }
 
-/// An image with lists at chosen places; gives the places.
-fn lists(r: &mut Rng, base: usize) -> (Vec<u8>, Vec<usize>) {
-    let n = base + r.range(8, 2048);
+/// An image of at most so many bytes behind the base, with lists at chosen places; gives the places.
+fn lists(r: &mut Rng, base: usize, most: usize) -> (Vec<u8>, Vec<usize>) {
+    let n = base + r.range(8, most);
     let mut m = if r.chance(4) { r.bytes(n) } else { vec![0; n] };
     let k = r.range(1, 12);
     let mut at = base;
@@ -271,10 +340,110 @@ fn valued(r: &mut Rng, base: usize, count: usize) -> (Vec<u8>, u32, Vec<Vec<u8>>
     (m, (list_at - base) as u32, names)
 }
 
-// ---- boundaries and exhaustive parts
+// ---- boundaries
+
+/// Each rule of the paper on both sides, and its examples. Never thinned out.
+fn boundaries(o: &mut Out<impl Write>) {
+    let r = &mut Rng(0);
+    // checksum and base block
+    for n in [0, 3, 4, 507, 508, 509] { o.case(1, &[], Some(&vec![0; n])); }
+    o.image(&[0; 508]);
+    for x in [u32::MAX, u32::MAX - 1, 1, 0x80000000] { for at in [0, 252, 504] { o.patch(at, &x.to_le_bytes()); o.case(1, &[], None); o.patch(at, &[0; 4]); } }
+    let mut m: Vec<u8> = (0..4097).map(|i| (i * 7 + i / 256) as u8).collect();
+    m[..4].copy_from_slice(b"regf");
+    proper(r, &mut m);
+    o.image(&m);
+    for n in [4095, 4096, 4097] { o.length(n); o.case(2, &[], None); }
+    for at in 0..4 { o.patch(at, &[m[at] ^ 0x20]); o.case(2, &[], None); o.patch(at, &m[at..at + 1]); }
+    for t in [0u32, 1, 2, 5, 6, 7, 0x0fffffff, u32::MAX] { o.patch(28, &t.to_le_bytes()); o.patch(32, &t.to_le_bytes()); o.case(2, &[], None); }
+    for x in [0u32, 0x7fffffff, 0x80000000, u32::MAX] { o.patch(36, &x.to_le_bytes()); o.case(2, &[], None); }
+    // `db`
+    for m in [&b"0000db"[..], b"0000d", b"0000", b"000db", b"0000bd", b"0000dB", b"0000db0", b""] { o.case(3, &[], Some(m)); }
+    // value lists
+    o.image(&[9; 8]);
+    for (count, offset) in [(0u32, 0u32), (1, 0), (0, 9), (1, 8), (1, 7), (1, u32::MAX), (1, 0x7fffffff)] { for base in [0, 1, 2, 4096] { o.values(count, offset, base, 1); } }
+    o.image(&(0..64).collect::<Vec<u8>>());
+    for (count, offset) in [(1, 63), (1, 64), (14, 4), (15, 4), (14, 3), (14, 5), (1, 56), (1, 57), (15, 0), (1 << 20, 1), ((1 << 20) + 1, 1), ((1 << 20) + 1, 64)] {
+        for base in [0, 1, 60, 64] { for room in [count.clamp(1, 64) - 1, count.min(64)] { o.values(count, offset, base, room); } }
+    }
+    // walks: the paper's examples, every kind at its end, drops, levels, budgets, counts, rooms
+    let mut m = vec![0; 16];
+    list(&mut m, 0, b"li", &[16, 32], 2);
+    o.image(&m);
+    for count in [0, 1, 1 << 20, (1 << 20) + 1] { for budget in [0, 1, BUDGET, BUDGET + 1] { for room in [1, 2, 3] { o.walk(count, 0, 0, budget, room); } } }
+    for n in [7, 8, 15, 16] { o.length(n); o.walk(1, 0, 0, BUDGET, 4); o.walk(1, 9, 0, BUDGET, 4); o.case(11, &[0], None); }
+    for (off, base) in [(15, 0), (16, 0), (17, 0), (0, 16), (0, 17), (u32::MAX, 1), (1, u32::MAX), (8, 8), (9, 8)] { o.walk(1, off, base, BUDGET, 4); o.case(11, &[off.saturating_add(base)], None); }
+    for kind in [b"ri", b"lf", b"lh", b"li", b"lx", b"xi", b"lF"] { for count in [0u16, 1, 2] {
+        let mut m = vec![0; 48];
+        list(&mut m, 16, kind, &[0xffffffef, 0xfffffff0, 0xfffffff0, 0xffffffef], count);
+        o.image(&m);
+        for n in [16, 20, 22, 23, 24, 27, 28, 31, 32, 39, 40] { o.length(n); o.walk(1, 0, 16, BUDGET, 2); o.case(11, &[16], None); }
+    } }
+    for depth in [1, 2, 7, 8, 9] { for around in [false, true] {
+        o.image(&chain(0, depth, around, b"li"));
+        for budget in [0, 1, 6, 7, 8, 9, BUDGET] { o.walk(1, 0, 0, budget, 1); }
+        o.walk(1, 0, 0, BUDGET, 0);
+    } }
+    // records: the fixed part, the size, the bytes left, the signature, the name
+    for (tag, fixed) in [(6, 80usize), (7, 24)] {
+        let mut m = vec![0; fixed + 21];
+        if tag == 6 { key(r, &mut m, 5, b"name", 0x20, 0) } else { value(&mut m, 5, b"name", 1, 0, [1, 2, 3]) }
+        let name_at = 5 + if tag == 6 { 76 } else { 6 };
+        o.image(&m);
+        let f = fixed as i32;
+        for size in [0, 8, f - 1, f, f + 3, f + 4, f + 8, f + 16, f + 17, f + 24, i32::MAX] { for s in [size, -size] { o.patch(5, &s.to_le_bytes()); o.case(tag, &[5], None); } }
+        o.patch(5, &i32::MIN.to_le_bytes()); o.case(tag, &[5], None);
+        o.patch(5, &(-f - 16).to_le_bytes());
+        for n in [0u16, 1, 15, 16, 17, 0xffff] { o.patch(name_at, &n.to_le_bytes()); o.case(tag, &[5], None); }
+        o.patch(name_at, &4u16.to_le_bytes());
+        for sign in [b"nk", b"vk", b"nK", b"kn", b"sk"] { o.patch(9, sign); o.case(tag, &[5], None); }
+        o.patch(9, if tag == 6 { b"nk" } else { b"vk" });
+        for n in [4, 5, 6, fixed + 4, fixed + 5, fixed + 20, fixed + 21] { o.length(n); for at in [4, 5, 6, n as u32, n as u32 + 1] { o.case(tag, &[at], None); } }
+        o.length(fixed + 21);
+        o.patch(5, &(-f).to_le_bytes());
+        for n in [0u16, 1] { o.patch(name_at, &n.to_le_bytes()); o.case(tag, &[5], None); }
+    }
+    // lookup: the first match, the first unreadable record, flags and letters
+    let mut m = vec![0; 100];
+    put32(&mut m, 8, 16); put32(&mut m, 12, 48);
+    value(&mut m, 16, b"@Ab[", 1, -32, [1, 2, 3]);
+    value(&mut m, 48, b"@aB[", 1, -32, [4, 5, 6]);
+    o.image(&m);
+    for name in [&b"@ab["[..], b"`ab[", b"@ab{", b"@AB[", b"@a", b"@ab[0", b""] { for count in [0, 1, 2] { o.lookup(count, 4, 0, name); } }
+    for flags in [0u16, 1, 2, 3, 0xfffe] { o.patch(36, &flags.to_le_bytes()); o.lookup(2, 4, 0, b"@AB["); }
+    for (at, x) in [(48, 0u8), (52, b'n'), (54, 30), (12, 101), (12, 90), (8, 200)] { o.patch(at, &[x]); o.lookup(2, 4, 0, b"@ab["); o.lookup(2, 4, 0, b"no"); o.patch(at, &m[at..at + 1]); }
+    o.patch(22, &[0, 0]); o.lookup(1, 4, 0, b""); o.lookup(1, 4, 0, b"a");
+    for (count, off) in [(1 << 20, 4), ((1 << 20) + 1, 4), (1, 0), (1, 99), (1, 100), (24, 4), (23, 4), (3, 88)] { for base in [0, 1, 2] { o.lookup(count, off, base, b"x"); } }
+    // hash
+    for x in [0u8, 64, 65, 90, 96, 97, 122, 123, 127, 128, 223, 224, 246, 247, 248, 254, 255] { o.case(9, &[0x20], Some(&[x])); o.case(9, &[0], Some(&[x, 0])); o.case(9, &[0], Some(&[x, 1])); }
+    for m in [&b"A"[..], b"ab", b"", b"abc"] { for flags in [0, 0x20, 0xffdf] { o.case(9, &[flags], Some(m)); } }
+    // bins and cells
+    let mut m = vec![0; 8192 + 40];
+    for (at, own, size) in [(8usize, 0u32, 4096u32), (4104, 4096, 4096)] {
+        m[at..at + 4].copy_from_slice(b"hbin");
+        put32(&mut m, at + 4, own);
+        put32(&mut m, at + 8, size);
+        put32(&mut m, at + 32, 8);
+        put32(&mut m, at + 40, (-4056i32) as u32);
+    }
+    o.image(&m);
+    for size in [0u32, 31, 32, 4095, 4096, 4097, 8191, 8192, 8193, 8223, 8224, 8225] { for base in [7, 8, 9] { o.case(10, &[base, size], None); } }
+    for base in [8232, 8233, u32::MAX] { for size in [0, 1, u32::MAX] { o.case(10, &[base, size], None); } }
+    for (at, words) in [(4108usize, [0u32, 4095, 4097, 8192]), (4112, [0, 2048, 8192, 12288]), (4136, [0, 4, 16, 4064]), (4144, [4048, 4056, 4064, 4052])] {
+        for x in words { for x in [x, x.wrapping_neg()] { o.patch(at, &x.to_le_bytes()); o.case(10, &[8, 8192], None); } }
+        o.patch(at, &m[at..at + 4]);
+    }
+    for at in [8, 11, 4104] { o.patch(at, b"x"); o.case(10, &[8, 8192], None); o.patch(at, &m[at..at + 1]); }
+    // words at and past the end
+    o.image(&[0x81, 0x92, 0xa3, 0xb4, 0xc5, 0xd6, 0xe7, 0xf8]);
+    for at in (0..10).chain([u32::MAX]) { o.case(12, &[at], None); }
+}
+
+// ---- exhaustive parts
 
 fn fixed(o: &mut Out<impl Write>) {
     let r = &mut Rng(0);
+    all(o, r, &example(), &[4096, 4128, 4216, 4240, 4328, 4416], 4096);
     // words at and past the end
     for n in 0..11usize {
         o.image(&(1..=n).map(|i| (i * 23 + 0x80 * (i % 2)) as u8).collect::<Vec<u8>>());
@@ -291,7 +460,8 @@ fn fixed(o: &mut Out<impl Write>) {
     for at in 0..516 { o.patch(at, &[1 + (at % 255) as u8]); o.case(1, &[], None); }
     // the base block: lengths, each byte of the signature, kinds, each byte of the fields
     for n in (0..6).chain(507..514).chain([560, 575, 576, 577]).chain(4086..4099).chain([8192]) { let m = header(r, n); o.case(2, &[], Some(&m)); o.case(1, &[], None); }
-    let m = header(r, 4096);
+    let mut m = header(r, 4096);
+    proper(r, &mut m);
     o.case(2, &[], Some(&m));
     for at in 0..4 {
         for x in [m[at] ^ 0x20, m[at] ^ 1, 0] { o.patch(at, &[x]); o.case(2, &[], None); }
@@ -303,7 +473,15 @@ fn fixed(o: &mut Out<impl Write>) {
         o.patch(544, &t.to_le_bytes()); o.case(2, &[], None);
     }
     o.case(2, &[], Some(&{ let mut m = vec![0; 4100]; m[..4].copy_from_slice(b"regf"); m }));
-    for at in (4..592).chain((592..4080).step_by(97)).chain(4080..4100) { o.patch(at, &[0x81 ^ (at % 127) as u8]); o.case(2, &[], None); }
+    let mut m = vec![0; 4100];
+    m[..4].copy_from_slice(b"regf");
+    proper(r, &mut m);
+    o.case(2, &[], Some(&m));
+    for at in (4..592).chain((592..4080).step_by(97)).chain(4080..4100) {
+        o.patch(at, &[m[at] ^ 0x81 ^ (at % 127) as u8]);
+        o.case(2, &[], None);
+        o.patch(at, &m[at..at + 1]);
+    }
     // `db`: every length, and every pair of bytes at 4 and 5
     for n in 0..10usize { for s in [b"db", b"dc", b"bd", b"Db"] {
         let mut m = vec![0; n];
@@ -450,9 +628,37 @@ fn fixed(o: &mut Out<impl Write>) {
             o.case(10, &[0, 4096], None);
         }
     } }
-    // wide lists: 131,070 bytes of entries in one list; 8,000 lists; 1,000 lists of 100
+    // large images, mostly zeros: lists at their end, 65,535 entries in one list, 10,101 lists
+    let mut m = vec![0; IMAGE_MOST];
+    list(&mut m, IMAGE_MOST - 16, b"li", &[5, 6], 2);
+    o.image(&m);
+    let end = (IMAGE_MOST - 16) as u32;
+    for (off, base) in [(end, 0), (0, end), (end - 1, 1), (end + 1, 0), (end, 8), (end, 9), (end, 16), (end, 17)] { o.walk(1, off, base, BUDGET, 2); }
+    for at in [end, end + 8, end + 16, end + 17] { o.case(11, &[at], None); o.case(12, &[at + 2], None); o.case(6, &[at], None); o.case(7, &[at - 8], None); }
+    for (count, off) in [(131_070, 1u32), (131_070, 4), (131_071, 1), (131_071, 4), (3, end - 4), (3, end), (4, end - 4)] { o.values(count, off, 0, 131_071); o.values(count, off, 0, 131_069); }
+    m[4..6].copy_from_slice(b"lh");
+    put16(&mut m, 6, 65535);
+    o.image(&m);
+    for room in [65535, 65534, 65536] { o.walk(1, 0, 0, BUDGET, room); }
+    o.length(IMAGE_MOST - 1);
+    o.walk(1, 0, 0, BUDGET, 65535);
+    o.length(IMAGE_MOST);
+    let mut m = vec![0; IMAGE_MOST];
+    list(&mut m, 0, b"ri", &[1024; 100], 100);
+    list(&mut m, 1024, b"ri", &[2048; 100], 100);
+    list(&mut m, 2048, b"li", &[7; 10], 10);
+    o.image(&m);
+    for (budget, room) in [(BUDGET, 100_000), (10_101, 100_000), (10_100, 100_000), (BUDGET, 99_999)] { o.walk(1, 0, 0, budget, room); }
+    list(&mut m, 1024, b"ri", &[2048; 655], 655);
+    o.image(&m);
+    for (budget, room) in [(BUDGET, 0), (65_535, 0), (65_601, 0)] { o.walk(1, 0, 0, budget, room); }
+}
+
+/// Wide lists of any numbers.
+fn wide(o: &mut Out<impl Write>) {
+    let r = &mut Rng(0);
     for (kind, each) in [(b"li", 4), (b"lf", 8), (b"lh", 8)] {
-        let n = (65528 / each).min(65535);
+        let n = 65528 / each;
         let mut m = r.bytes(65536);
         m[4..6].copy_from_slice(kind);
         for k in [n, n - 1, n + 1] {
@@ -461,32 +667,16 @@ fn fixed(o: &mut Out<impl Write>) {
             o.case(11, &[0], None);
         }
     }
-    for (lists, entries) in [(8000usize, 0usize), (8000, 1), (1000, 100)] {
-        let mut m = vec![0; 65536];
-        m[4..6].copy_from_slice(b"ri"); put16(&mut m, 6, lists as u16);
-        for i in 0..lists { put32(&mut m, 8 + 4 * i, 64000); }
-        m[64004..64006].copy_from_slice(b"li"); put16(&mut m, 64006, entries as u16);
-        for i in 0..entries { put32(&mut m, 64008 + 4 * i, i as u32); }
-        o.case(5, &[1, 0, 0, BUDGET, 100_000], Some(&m));
-        for budget in [lists as u32, lists as u32 + 1] { o.walk(1, 0, 0, budget, 100_000); }
-        for room in [lists * entries, (lists * entries).saturating_sub(1)] { o.walk(1, 0, 0, BUDGET, room as u32); }
-    }
     let m = r.bytes(65536);
     o.image(&m);
     for n in [1u32, 16382, 16383, 16384] { o.values(n, 4, 0, 20000); o.values(n - 1, 1, 0, 20000); }
-    // the largest images: lists at their end, 131,070 places
     let mut m = vec![0; IMAGE_MOST];
-    list(&mut m, IMAGE_MOST - 16, b"li", &[5, 6], 2);
-    put16(&mut m, 6, 65535);
     m[4..6].copy_from_slice(b"lh");
+    put16(&mut m, 6, 65535);
     for i in 0..65535 { put32(&mut m, 8 + 8 * i, i as u32 * 65537); }
-    o.case(5, &[1, 0, 0, BUDGET, 65535], Some(&m));
-    o.walk(1, 0, 0, BUDGET, 65534);
-    o.walk(1, 0, 65536, BUDGET, 70000);
-    o.walk(1, (IMAGE_MOST - 16) as u32, 0, BUDGET, 2);
+    o.image(&m);
+    for base in [0, 65536] { o.walk(1, 0, base, BUDGET, 70000); }
     o.values(131_070, 1, 0, 131_070);
-    o.values(131_071, 4, 0, 131_071);
-    o.values(131_071, 5, 0, 131_071);
 }
 
 // ---- hives
@@ -517,14 +707,14 @@ fn hive(o: &mut Out<impl Write>, m: &[u8], few: bool) {
     }
 }
 
-fn hives(o: &mut Out<impl Write>, r: &mut Rng, files: &[String]) {
+fn hives(o: &mut Out<impl Write>, r: &mut Rng, files: &[String], cuts: usize, damaged: usize) {
     for f in files {
         let whole = std::fs::read(f).expect(f);
         let m = &whole[..whole.len().min(IMAGE_MOST)];
         o.image(m);
         hive(o, m, false);
         // cuts
-        for _ in 0..12 {
+        for _ in 0..cuts {
             let n = if r.chance(3) { r.range(0, m.len()) } else { r.range(4096.min(m.len()), m.len()) };
             o.length(n);
             hive(o, &m[..n], true);
@@ -532,7 +722,7 @@ fn hives(o: &mut Out<impl Write>, r: &mut Rng, files: &[String]) {
         o.length(m.len());
         // damage: one to six bytes, most of them inside the part in use
         let used = m.iter().rposition(|&x| x != 0).unwrap_or(0);
-        for _ in 0..40 {
+        for _ in 0..damaged {
             let mut d = m.to_vec();
             for _ in 0..r.range(1, 6) {
                 let at = if r.chance(8) { r.range(0, 4095) } else { r.range(4096.min(used), used) };
@@ -544,6 +734,25 @@ fn hives(o: &mut Out<impl Write>, r: &mut Rng, files: &[String]) {
             o.image(m);
         }
     }
+}
+
+/// The samples that are stored: a share of all of these. `rust`: only what the Rust has.
+fn stored(o: &mut Out<impl Write>, seed: u64, files: &[String], rust: bool) {
+    o.pick = Rng(seed);
+    //                   checksum, block, db, values, walk, key, value, lookup, hash, bins, list, words
+    let shares: [[u64; 16]; 3] = if rust {
+        [[0, 16, 24, 60, 20, 24, 6, 16, 0, 0, 0, 24, 0, 0, 0, 0], [0, 4, 2, 8, 2, 2, 2, 6, 0, 0, 0, 6, 0, 0, 0, 0], [0, 3, 6, 6, 3, 2, 2, 6, 0, 0, 0, 2, 0, 0, 0, 0]]
+    } else {
+        [[0, 8, 80, 10, 3, 7, 10, 10, 4, 1, 1, 12, 1, 0, 0, 0], [0, 8, 16, 8, 1, 1, 5, 5, 1, 1, 2, 3, 3, 0, 0, 0], [0, 3, 12, 3, 2, 1, 3, 3, 3, 1, 1, 1, 0, 0, 0, 0]]
+    };
+    o.one_in = if rust { [0, 1, 1, 1, 1, 1, 1, 1, 0, 0, 0, 1, 0, 0, 0, 0] } else { [1; 16] };
+    boundaries(o);
+    o.one_in = shares[0];
+    fixed(o);
+    o.one_in = shares[1];
+    rounds(o, &mut Rng(seed), 20, SMALL);
+    o.one_in = shares[2];
+    hives(o, &mut Rng(seed), files, 1, 3);
 }
 
 // ---- random rounds
@@ -563,9 +772,9 @@ fn all(o: &mut Out<impl Write>, r: &mut Rng, m: &[u8], places: &[usize], base: u
     }
 }
 
-fn records(o: &mut Out<impl Write>, r: &mut Rng) {
+fn records(o: &mut Out<impl Write>, r: &mut Rng, most: usize) {
     for _ in 0..6 {
-        let n = r.range(80, 400);
+        let n = r.range(80, most);
         let p = r.range(0, 16);
         let mut m = r.bytes(p + n);
         let len = if r.chance(8) { r.range(0, 400) } else { r.range(0, (n - 80).min(40)) };
@@ -577,7 +786,7 @@ fn records(o: &mut Out<impl Write>, r: &mut Rng) {
         if r.chance(20) { m[p + 4] ^= 1; }
         o.case(6, &[p as u32], Some(&m));
         // the same record under other sizes, name lengths, and cuts
-        for _ in 0..5 { let s = -(8 * r.range(9, n / 8 + 1) as i32); o.patch(p, &s.to_le_bytes()); o.case(6, &[p as u32], None); }
+        for _ in 0..5 { let s = -(8 * if r.chance(5) { r.range(9, n / 8 + 1) } else { r.range(10, n / 8) } as i32); o.patch(p, &s.to_le_bytes()); o.case(6, &[p as u32], None); }
         for _ in 0..3 { let s = r.range(0, n - 80 + 8) as u16; o.patch(p + 76, &s.to_le_bytes()); o.case(6, &[p as u32], None); }
         for _ in 0..4 { let at = r.range(0, 79); let x = r.next() as u8; o.patch(p + at, &[x]); o.case(6, &[p as u32], None); }
         for _ in 0..2 { let k = r.range(0, p + n); o.length(k); o.case(6, &[p as u32], None); }
@@ -594,7 +803,12 @@ fn records(o: &mut Out<impl Write>, r: &mut Rng) {
     }
 }
 
-fn rounds(o: &mut Out<impl Write>, r: &mut Rng, rounds: u64) {
+/// The greatest number of bytes of: images with lists, with records, of noise.
+struct Most(usize, usize, usize);
+const USUAL: Most = Most(2048, 400, 300);
+const SMALL: Most = Most(200, 130, 40);
+
+fn rounds(o: &mut Out<impl Write>, r: &mut Rng, rounds: u64, most: Most) {
     for _ in 0..rounds {
         let n = r.pick(&[508, 509, 512, 600, 507, 4096]);
         let m = r.bytes(n);
@@ -609,8 +823,8 @@ fn rounds(o: &mut Out<impl Write>, r: &mut Rng, rounds: u64) {
         o.case(3, &[], Some(&m));
         // lists and value lists
         for _ in 0..4 {
-            let base = r.pick(&[0usize, 0, 4, 16, 31, 32, 512]);
-            let (m, places) = lists(r, base);
+            let base = r.pick(&[0usize, 0, 4, 16, 31, 32, most.0 / 4]);
+            let (m, places) = lists(r, base, most.0);
             o.image(&m);
             let b = base as u32;
             for &p in &places {
@@ -640,7 +854,7 @@ fn rounds(o: &mut Out<impl Write>, r: &mut Rng, rounds: u64) {
             o.values(x, y, z, ENOUGH);
             o.walk(x, y, z, BUDGET, ENOUGH);
         }
-        records(o, r);
+        records(o, r, most.1);
         // lookup
         for _ in 0..2 {
             let (base, count) = (r.pick(&[0usize, 32]), r.range(0, 6));
@@ -686,7 +900,7 @@ fn rounds(o: &mut Out<impl Write>, r: &mut Rng, rounds: u64) {
         }
         if r.chance(4) { let n = r.range(4096, 4500); m.truncate(n); }
         all(o, r, &m, &[4096, 4128, 4216, 4240, 4328], 4096);
-        let n = r.range(0, 300);
+        let n = r.range(0, most.2);
         let m = r.bytes(n);
         let p = r.range(0, n);
         all(o, r, &m, &[p], 0);
@@ -695,18 +909,19 @@ fn rounds(o: &mut Out<impl Write>, r: &mut Rng, rounds: u64) {
 
 fn main() {
     let args: Vec<String> = std::env::args().skip(1).collect();
-    let o = &mut Out { to: BufWriter::with_capacity(1 << 16, std::io::stdout().lock()), words: [0; 5], known: [false; 5], cases: 0 };
     let number = |i: usize| args.get(i).and_then(|s| s.parse::<u64>().ok());
+    let to = BufWriter::with_capacity(1 << 16, std::io::stdout().lock());
+    let mut o = Out::new(to, [1; 16], 0);
     match (args.first().map(|s| s.as_str()), number(0), number(1)) {
-        (Some("fixed"), _, _) => {
-            let m = example();
-            let r = &mut Rng(0);
-            all(o, r, &m, &[4096, 4128, 4216, 4240, 4328, 4416], 4096);
-            fixed(o);
+        (Some("fixed"), _, _) => { boundaries(&mut o); fixed(&mut o); wide(&mut o) }
+        (Some("hives"), _, Some(seed)) => hives(&mut o, &mut Rng(seed), &args[2..], 12, 40),
+        (Some("stored"), _, Some(seed)) => stored(&mut o, seed, &args[2..], false),
+        (Some("stored-rust"), _, Some(seed)) => {
+            if args[2] != "-" { o.marked = Some(std::fs::read(&args[2]).expect("a list of marks")); }
+            stored(&mut o, seed, &args[3..], true)
         }
-        (Some("hives"), _, Some(seed)) => hives(o, &mut Rng(seed), &args[2..]),
-        (_, Some(seed), Some(n)) => rounds(o, &mut Rng(seed), n),
-        _ => { eprintln!("usage: cases fixed | hives SEED FILE.. | SEED ROUNDS"); std::process::exit(2) }
+        (_, Some(seed), Some(n)) => rounds(&mut o, &mut Rng(seed), n, USUAL),
+        _ => { eprintln!("usage: cases fixed | hives SEED FILE.. | stored SEED FILE.. | stored-rust SEED MARKS FILE.. | SEED ROUNDS"); std::process::exit(2) }
     }
     o.to.flush().unwrap();
     eprintln!("{} cases", o.cases);

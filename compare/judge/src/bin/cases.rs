@@ -1,0 +1,928 @@
+//! Writes a stream of cases (compare/README.md):
+//!   cases fixed > CASES                 boundaries, and short inputs exhaustively
+//!   cases hives SEED FILE.. > CASES     hives: all their records and lists, cuts and damaged copies
+//!   cases stored SEED FILE.. > CASES    a share of all of these, to be kept in the repository
+//!   cases stored-rust SEED MARKS FILE.. > CASES   the same of what the Rust has; MARKS: a file with a 1 for each case to keep, 0
+//!                                       for each other, or `-` to keep all
+//!   cases SEED ROUNDS > CASES           random images rich in plausible lists and records, and damaged ones
+//! Same words, same bytes. Uses nothing of the Rust that is tested, and no reading of the paper.
+use std::io::{BufWriter, Write};
+
+// ---- numbers from a seed
+
+struct Rng(u64);
+impl Rng {
+    fn next(&mut self) -> u64 {
+        self.0 = self.0.wrapping_add(0x9e3779b97f4a7c15);
+        let mut z = self.0;
+        z = (z ^ (z >> 30)).wrapping_mul(0xbf58476d1ce4e5b9);
+        z = (z ^ (z >> 27)).wrapping_mul(0x94d049bb133111eb);
+        z ^ (z >> 31)
+    }
+    fn below(&mut self, n: u64) -> u64 { self.next() % n }
+    fn range(&mut self, a: usize, b: usize) -> usize { a + self.below((b - a + 1) as u64) as usize }
+    fn pick<T: Copy>(&mut self, v: &[T]) -> T { v[self.below(v.len() as u64) as usize] }
+    fn chance(&mut self, of: u64) -> bool { self.below(of) == 0 }
+    fn bytes(&mut self, n: usize) -> Vec<u8> { (0..n).map(|_| self.next() as u8).collect() }
+    fn word(&mut self) -> u32 {
+        match self.below(6) {
+            0 => self.pick(&[0, 1, 2, 7, 8, 0x7fffffff, 0x80000000, 0xfffffffe, 0xffffffff, 4096, 1 << 20, (1 << 20) + 1]),
+            1 => self.below(256) as u32,
+            2 => self.below(65536) as u32,
+            _ => self.next() as u32,
+        }
+    }
+}
+
+// ---- the stream
+
+const IMAGE_MOST: usize = 524_288;
+const ENOUGH: u32 = 1024;
+const BUDGET: u32 = 65536;
+
+/// Writes a stream. What a case needs of words, name and image is held against what the stream's reader has by then, and only
+/// the difference is written: of the image, patches and a length where these are shorter than the whole.
+struct Out<W: Write> {
+    to: W,
+    words: [u32; 5],
+    name: Vec<u8>,
+    has: Vec<u8>,
+    has_length: usize,
+    want: Vec<u8>,
+    want_length: usize,
+    changed: std::ops::Range<usize>,
+    /// of each tag one case in so many is taken (0: none), and of these, where a list is given, those that it marks
+    one_in: [u64; 16],
+    pick: Rng,
+    marked: Option<Vec<u8>>,
+    taken: usize,
+    cases: u64,
+}
+impl<W: Write> Out<W> {
+    fn new(to: W, one_in: [u64; 16], seed: u64) -> Self {
+        let none = vec![0; IMAGE_MOST];
+        Out { to, words: [0; 5], name: vec![], has: none.clone(), has_length: 0, want: none, want_length: 0, changed: 0..0, one_in, pick: Rng(seed), marked: None, taken: 0, cases: 0 }
+    }
+    fn put(&mut self, tag: u8, words: [u32; 5], name: Option<&[u8]>, image: Option<&[u8]>) {
+        let mut mask = 0u8;
+        let mut body = Vec::new();
+        for i in 0..5 { if words[i] != self.words[i] { mask |= 1 << i; body.extend(words[i].to_le_bytes()); } }
+        self.words = words;
+        for (bit, bytes) in [(32, name), (64, image)] {
+            if let Some(b) = bytes { mask |= bit; body.extend((b.len() as u32).to_le_bytes()); }
+        }
+        self.to.write_all(&[tag, mask]).unwrap();
+        self.to.write_all(&body).unwrap();
+        for b in [name, image].into_iter().flatten() { self.to.write_all(b).unwrap(); }
+        if let Some(b) = name { self.name = b.to_vec(); }
+    }
+    /// Runs of the image's bytes that the reader does not have yet; those that lie close together as one.
+    fn runs(&self) -> Vec<(usize, usize)> {
+        let mut runs: Vec<(usize, usize)> = vec![];
+        for at in self.changed.start..self.changed.end.min(self.want_length) {
+            if self.has[at] != self.want[at] {
+                match runs.last_mut() {
+                    Some(r) if at - r.1 < 10 && at - r.0 < 65000 => r.1 = at + 1,
+                    _ => runs.push((at, at + 1)),
+                }
+            }
+        }
+        runs
+    }
+    fn written(&mut self, tag: u8, words: [u32; 5], name: Option<&[u8]>) {
+        let runs = self.runs();
+        let other = self.want_length != self.has_length;
+        let patches: usize = runs.iter().map(|r| 10 + r.1 - r.0).sum::<usize>() + if other { 6 } else { 0 };
+        let mut image = None;
+        let (want, n) = (std::mem::take(&mut self.want), self.want_length);
+        if patches <= 6 + n {
+            for &(from, to) in &runs {
+                let mut w = self.words;
+                w[0] = from as u32;
+                self.put(100, w, Some(&want[from..to]), None);
+                self.has[from..to].copy_from_slice(&want[from..to]);
+            }
+            if other { let mut w = self.words; w[0] = n as u32; self.put(101, w, None, None); }
+        } else {
+            image = Some(&want[..n]);
+            self.has[..n].copy_from_slice(&want[..n]);
+        }
+        self.changed = self.changed.start.max(n)..self.changed.end.max(n);
+        self.has_length = n;
+        let name = name.filter(|b| *b != self.name);
+        self.put(tag, words, name, image);
+        self.want = want;
+        self.cases += 1;
+    }
+    fn takes(&mut self, tag: u8) -> bool {
+        let one_in = self.one_in[tag as usize];
+        if one_in == 0 || one_in > 1 && !self.pick.chance(one_in) { return false; }
+        self.taken += 1;
+        self.marked.as_ref().is_none_or(|m| m[self.taken - 1] == b'1')
+    }
+    fn bytes(&mut self, at: usize, bytes: &[u8]) {
+        let end = at + bytes.len();
+        self.want[at..end].copy_from_slice(bytes);
+        self.changed = if self.changed.is_empty() { at..end } else { self.changed.start.min(at)..self.changed.end.max(end) };
+    }
+    /// A case with its words; what it does not use stays as it was.
+    fn case(&mut self, tag: u8, words: &[u32], image: Option<&[u8]>) {
+        if let Some(m) = image { self.image(m); }
+        if !self.takes(tag) { return; }
+        let mut w = self.words;
+        w[..words.len()].copy_from_slice(words);
+        self.written(tag, w, None);
+    }
+    fn image(&mut self, image: &[u8]) { self.bytes(0, image); self.want_length = image.len(); }
+    fn patch(&mut self, at: usize, bytes: &[u8]) { self.bytes(at, bytes); }
+    fn length(&mut self, n: usize) { self.want_length = n; }
+    fn values(&mut self, count: u32, offset: u32, base: u32, room: u32) { self.case(4, &[count, offset, base, room], None); }
+    fn walk(&mut self, count: u32, list: u32, base: u32, budget: u32, room: u32) { self.case(5, &[count, list, base, budget, room], None); }
+    fn lookup(&mut self, count: u32, offset: u32, base: u32, name: &[u8]) {
+        if !self.takes(8) { return; }
+        let mut w = self.words;
+        w[..3].copy_from_slice(&[count, offset, base]);
+        self.written(8, w, Some(name));
+    }
+}
+
+// ---- pieces of images
+
+fn put16(m: &mut [u8], at: usize, x: u16) { m[at..at + 2].copy_from_slice(&x.to_le_bytes()); }
+fn put32(m: &mut [u8], at: usize, x: u32) { m[at..at + 4].copy_from_slice(&x.to_le_bytes()); }
+fn put64(m: &mut [u8], at: usize, x: u64) { m[at..at + 8].copy_from_slice(&x.to_le_bytes()); }
+fn get16(m: &[u8], at: usize) -> u16 { u16::from_le_bytes(m[at..at + 2].try_into().unwrap()) }
+fn get32(m: &[u8], at: usize) -> u32 { u32::from_le_bytes(m[at..at + 4].try_into().unwrap()) }
+fn checksum(m: &[u8]) -> u32 {
+    let x = (0..127).fold(0, |s, i| s ^ get32(m, 4 * i));
+    match x { 0 => 1, u32::MAX => u32::MAX - 1, _ => x }
+}
+
+/// The example of document 01.
+fn example() -> Vec<u8> {
+    let mut m = vec![0; 8192];
+    m[..4].copy_from_slice(b"regf");
+    for (at, x) in [(4, 1), (8, 1), (20, 1), (24, 5), (32, 1), (36, 32), (40, 4096), (44, 1)] { put32(&mut m, at, x); }
+    m[4096..4100].copy_from_slice(b"hbin");
+    put32(&mut m, 4104, 4096);
+    for (at, name) in [(32, &b"ROOT"[..]), (144, b"A"), (232, b"b")] {
+        let p = 4096 + at;
+        put32(&mut m, p, -88i32 as u32);
+        m[p + 4..p + 6].copy_from_slice(b"nk");
+        put16(&mut m, p + 6, 32);
+        put16(&mut m, p + 76, name.len() as u16);
+        m[p + 80..p + 80 + name.len()].copy_from_slice(name);
+    }
+    put32(&mut m, 4096 + 32 + 24, 2);
+    put32(&mut m, 4096 + 32 + 32, 120);
+    list(&mut m, 4096 + 120, b"lh", &[144, 65, 232, 66], 2);
+    put32(&mut m, 4096 + 320, 3776);
+    let c = checksum(&m);
+    put32(&mut m, 508, c);
+    m
+}
+
+/// A list's header, and words from its byte 8 on.
+fn list(m: &mut [u8], p: usize, kind: &[u8; 2], words: &[u32], count: u16) {
+    put32(m, p, (-(8 + 4 * words.len() as i32)) as u32);
+    m[p + 4..p + 6].copy_from_slice(kind);
+    put16(m, p + 6, count);
+    for (i, &x) in words.iter().enumerate() { put32(m, p + 8 + 4 * i, x); }
+}
+
+/// Nothing in a base block that the Rust's conversions lose: times of our days, a whole name, flags that it knows.
+fn proper(r: &mut Rng, m: &mut [u8]) {
+    for at in [12, 568] { let t = 0x01d00000_00000000 + r.below(1 << 52); put64(m, at, t); }
+    let k = r.range(0, 32);
+    for i in 0..32 { put16(m, 48 + 2 * i, if i < k { 0x41 + 257 * i as u16 } else { 0 }); }
+    put32(m, 544, r.pick(&[0, 1, 2]));
+}
+
+fn header(r: &mut Rng, n: usize) -> Vec<u8> {
+    let mut m = if r.chance(2) { r.bytes(n) } else { vec![0; n] };
+    if n < 512 { return m; }
+    m[..4].copy_from_slice(b"regf");
+    for at in [4, 8, 20, 24, 36, 40, 44] { let x = r.word(); put32(&mut m, at, x); }
+    let t = r.pick(&[0, 1, 6, 6, 2, 3, 4, 5, 7, 0x0fffffff, 0x0ffffffe, u32::MAX, 0x01000000, 0x100]);
+    put32(&mut m, 28, t);
+    let t = r.pick(&[1, 1, 0, 2, 0x0fffffff, u32::MAX, 0x101]);
+    put32(&mut m, 32, t);
+    if n >= 4096 { let f = r.pick(&[0, 1, 2, 3, 0x0fffffff, u32::MAX]); put32(&mut m, 544, f); }
+    if n >= 4096 && r.chance(2) { proper(r, &mut m); }
+    else { for i in 0..32 { if r.chance(3) { let x = r.pick(&[0x41u16, 0xd800, 0xdc00, 0xdbff, 0, 0xe9, 0x430, 0xffff]); put16(&mut m, 48 + 2 * i, x); } } }
+    let c = if r.chance(3) { r.word() } else { checksum(&m) };
+    put32(&mut m, 508, c);
+    m
+}
+
+fn key(r: &mut Rng, m: &mut [u8], p: usize, name: &[u8], flags: u16, size: i32) {
+    let end = (p + 80).min(m.len());
+    for at in p..end { m[at] = r.next() as u8; }
+    if p + 80 > m.len() { return; }
+    put32(m, p, size as u32);
+    m[p + 4..p + 6].copy_from_slice(b"nk");
+    put16(m, p + 6, flags);
+    for at in [24, 40] { let x = r.below(4) as u32; put32(m, p + at, x); }
+    put16(m, p + 76, name.len() as u16);
+    let n = name.len().min(m.len() - p - 80);
+    m[p + 80..p + 80 + n].copy_from_slice(&name[..n]);
+}
+
+fn value(m: &mut [u8], p: usize, name: &[u8], flags: u16, size: i32, data: [u32; 3]) {
+    if p + 24 > m.len() { return; }
+    put32(m, p, size as u32);
+    m[p + 4..p + 6].copy_from_slice(b"vk");
+    put16(m, p + 6, name.len() as u16);
+    for i in 0..3 { put32(m, p + 8 + 4 * i, data[i]); }
+    put16(m, p + 20, flags);
+    put16(m, p + 22, 0x5aa5);
+    let n = name.len().min(m.len() - p - 24);
+    m[p + 24..p + 24 + n].copy_from_slice(&name[..n]);
+}
+
+/// An image of at most so many bytes behind the base, with lists at chosen places; gives the places.
+fn lists(r: &mut Rng, base: usize, most: usize) -> (Vec<u8>, Vec<usize>) {
+    let n = base + r.range(8, most);
+    let mut m = if r.chance(4) { r.bytes(n) } else { vec![0; n] };
+    let k = r.range(1, 12);
+    let mut at = base;
+    let mut places = vec![];
+    for _ in 0..k {
+        let kind = r.pick(&[b"lf", b"lh", b"li", b"ri", b"ri"]);
+        let each = if kind == b"lf" || kind == b"lh" { 8 } else { 4 };
+        let count = if r.chance(12) { r.range(0, 200) } else { r.range(0, 9) };
+        let size = 8 + each * count;
+        if at + size > n { break; }
+        put32(&mut m, at, (-(size as i32)) as u32);
+        m[at + 4..at + 6].copy_from_slice(kind);
+        put16(&mut m, at + 6, count as u16);
+        places.push(at);
+        at += if r.chance(3) { size } else { (size + 7) & !7 };
+    }
+    // ri entries name later places (or now and then any place); leaf entries are numbers
+    for (i, &p) in places.clone().iter().enumerate() {
+        let kind = [m[p + 4], m[p + 5]];
+        let count = get16(&m, p + 6) as usize;
+        let each = if &kind == b"lf" || &kind == b"lh" { 8 } else { 4 };
+        for j in 0..count {
+            let x = if &kind == b"ri" {
+                let q = if r.chance(40) || i + 1 == places.len() { r.pick(&places) } else { r.pick(&places[i + 1..]) };
+                if r.chance(60) { r.word() } else { (q - base) as u32 }
+            } else {
+                match r.below(80) {
+                    0 => r.word(),
+                    1 => (u32::MAX - base as u32).wrapping_add(r.below(4) as u32).wrapping_sub(1),
+                    _ => r.below(1 << 20) as u32,
+                }
+            };
+            put32(&mut m, p + 8 + each * j, x);
+            if each == 8 { let h = r.word(); put32(&mut m, p + 12 + each * j, h); }
+        }
+    }
+    if r.chance(6) && !m.is_empty() { let cut = r.range(0, m.len()); m.truncate(cut); }
+    (m, places)
+}
+
+/// A chain of `ri` lists of one entry, `depth` lists deep with its leaf; the last names itself where `around`.
+fn chain(base: usize, depth: usize, around: bool, leaf: &[u8; 2]) -> Vec<u8> {
+    let mut m = vec![0; base + 32 * depth];
+    for i in 0..depth {
+        let p = base + 32 * i;
+        let last = i + 1 == depth;
+        let kind = if last && !around { leaf } else { b"ri" };
+        let entry = if last && !around { 77 } else if last { 32 * i } else { 32 * (i + 1) };
+        list(&mut m, p, kind, &[entry as u32], 1);
+    }
+    m
+}
+
+/// Bins from `base` on, filled with cells; some of the cells hold records and lists.
+fn bins(r: &mut Rng, base: usize, count: usize) -> Vec<u8> {
+    let mut m = vec![0; base];
+    for _ in 0..count {
+        let size = 4096 * if r.chance(4) { 2 } else { 1 };
+        let start = m.len();
+        m.resize(start + size, 0);
+        m[start..start + 4].copy_from_slice(b"hbin");
+        put32(&mut m, start + 4, (start - base) as u32);
+        put32(&mut m, start + 8, size as u32);
+        let mut at = start + 32;
+        while at < start + size {
+            let rest = start + size - at;
+            let n = if r.chance(40) { rest } else { (8 * r.range(1, 64)).min(rest) };
+            put32(&mut m, at, if r.chance(2) { n as u32 } else { (n as u32).wrapping_neg() });
+            at += n;
+        }
+    }
+    m
+}
+
+/// Value records and a list of them at `base`; gives the image, the list's offset, and the names.
+fn valued(r: &mut Rng, base: usize, count: usize) -> (Vec<u8>, u32, Vec<Vec<u8>>) {
+    let list_at = base + 8 * r.range(1, 4);
+    let mut m = vec![0; list_at + 4 + 4 * count];
+    let mut names = vec![];
+    for i in 0..count {
+        let p = m.len() + r.range(0, 3);
+        let n = r.pick(&[0usize, 1, 1, 2, 3, 5, 8]);
+        let name: Vec<u8> = (0..n).map(|_| r.pick(b"AaBbZz@[`{09\xc4\xe4\xff\x00")).collect();
+        let size = (24 + n + r.range(0, 9)) as i32;
+        m.resize(p + size as usize, 0);
+        let flags = r.pick(&[1u16, 1, 1, 1, 0, 2, 3, 0x11, 0xffff, 0xfffe]);
+        let data = [r.word(), r.word(), r.word()];
+        value(&mut m, p, &name, flags, if r.chance(3) { size } else { -size }, data);
+        let entry = if r.chance(60) { r.word() } else { (p - base) as u32 };
+        put32(&mut m, list_at + 4 + 4 * i, entry);
+        names.push(name);
+    }
+    if r.chance(4) && !m.is_empty() { let at = r.range(0, m.len() - 1); m[at] ^= 1 << r.below(8); }
+    if r.chance(10) { let n = r.range(0, m.len()); m.truncate(n); }
+    (m, (list_at - base) as u32, names)
+}
+
+// ---- boundaries
+
+/// Each rule of the paper on both sides, and its examples. Never thinned out.
+fn boundaries(o: &mut Out<impl Write>) {
+    let r = &mut Rng(0);
+    // checksum and base block
+    for n in [0, 3, 4, 507, 508, 509] { o.case(1, &[], Some(&vec![0; n])); }
+    o.image(&[0; 508]);
+    for x in [u32::MAX, u32::MAX - 1, 1, 0x80000000] { for at in [0, 252, 504] { o.patch(at, &x.to_le_bytes()); o.case(1, &[], None); o.patch(at, &[0; 4]); } }
+    let mut m: Vec<u8> = (0..4097).map(|i| (i * 7 + i / 256) as u8).collect();
+    m[..4].copy_from_slice(b"regf");
+    proper(r, &mut m);
+    o.image(&m);
+    for n in [4095, 4096, 4097] { o.length(n); o.case(2, &[], None); }
+    for at in 0..4 { o.patch(at, &[m[at] ^ 0x20]); o.case(2, &[], None); o.patch(at, &m[at..at + 1]); }
+    for t in [0u32, 1, 2, 5, 6, 7, 0x0fffffff, u32::MAX] { o.patch(28, &t.to_le_bytes()); o.patch(32, &t.to_le_bytes()); o.case(2, &[], None); }
+    for x in [0u32, 0x7fffffff, 0x80000000, u32::MAX] { o.patch(36, &x.to_le_bytes()); o.case(2, &[], None); }
+    // `db`
+    for m in [&b"0000db"[..], b"0000d", b"0000", b"000db", b"0000bd", b"0000dB", b"0000db0", b""] { o.case(3, &[], Some(m)); }
+    // value lists
+    o.image(&[9; 8]);
+    for (count, offset) in [(0u32, 0u32), (1, 0), (0, 9), (1, 8), (1, 7), (1, u32::MAX), (1, 0x7fffffff)] { for base in [0, 1, 2, 4096] { o.values(count, offset, base, 1); } }
+    o.image(&(0..64).collect::<Vec<u8>>());
+    for (count, offset) in [(1, 63), (1, 64), (14, 4), (15, 4), (14, 3), (14, 5), (1, 56), (1, 57), (15, 0), (1 << 20, 1), ((1 << 20) + 1, 1), ((1 << 20) + 1, 64)] {
+        for base in [0, 1, 60, 64] { for room in [count.clamp(1, 64) - 1, count.min(64)] { o.values(count, offset, base, room); } }
+    }
+    // walks: the paper's examples, every kind at its end, drops, levels, budgets, counts, rooms
+    let mut m = vec![0; 16];
+    list(&mut m, 0, b"li", &[16, 32], 2);
+    o.image(&m);
+    for count in [0, 1, 1 << 20, (1 << 20) + 1] { for budget in [0, 1, BUDGET, BUDGET + 1] { for room in [1, 2, 3] { o.walk(count, 0, 0, budget, room); } } }
+    for n in [7, 8, 15, 16] { o.length(n); o.walk(1, 0, 0, BUDGET, 4); o.walk(1, 9, 0, BUDGET, 4); o.case(11, &[0], None); }
+    for (off, base) in [(15, 0), (16, 0), (17, 0), (0, 16), (0, 17), (u32::MAX, 1), (1, u32::MAX), (8, 8), (9, 8)] { o.walk(1, off, base, BUDGET, 4); o.case(11, &[off.saturating_add(base)], None); }
+    for kind in [b"ri", b"lf", b"lh", b"li", b"lx", b"xi", b"lF"] { for count in [0u16, 1, 2] {
+        let mut m = vec![0; 48];
+        list(&mut m, 16, kind, &[0xffffffef, 0xfffffff0, 0xfffffff0, 0xffffffef], count);
+        o.image(&m);
+        for n in [16, 20, 22, 23, 24, 27, 28, 31, 32, 39, 40] { o.length(n); o.walk(1, 0, 16, BUDGET, 2); o.case(11, &[16], None); }
+    } }
+    for depth in [1, 2, 7, 8, 9] { for around in [false, true] {
+        o.image(&chain(0, depth, around, b"li"));
+        for budget in [0, 1, 6, 7, 8, 9, BUDGET] { o.walk(1, 0, 0, budget, 1); }
+        o.walk(1, 0, 0, BUDGET, 0);
+    } }
+    // records: the fixed part, the size, the bytes left, the signature, the name
+    for (tag, fixed) in [(6, 80usize), (7, 24)] {
+        let mut m = vec![0; fixed + 21];
+        if tag == 6 { key(r, &mut m, 5, b"name", 0x20, 0) } else { value(&mut m, 5, b"name", 1, 0, [1, 2, 3]) }
+        let name_at = 5 + if tag == 6 { 76 } else { 6 };
+        o.image(&m);
+        let f = fixed as i32;
+        for size in [0, 8, f - 1, f, f + 3, f + 4, f + 8, f + 16, f + 17, f + 24, i32::MAX] { for s in [size, -size] { o.patch(5, &s.to_le_bytes()); o.case(tag, &[5], None); } }
+        o.patch(5, &i32::MIN.to_le_bytes()); o.case(tag, &[5], None);
+        o.patch(5, &(-f - 16).to_le_bytes());
+        for n in [0u16, 1, 15, 16, 17, 0xffff] { o.patch(name_at, &n.to_le_bytes()); o.case(tag, &[5], None); }
+        o.patch(name_at, &4u16.to_le_bytes());
+        for sign in [b"nk", b"vk", b"nK", b"kn", b"sk"] { o.patch(9, sign); o.case(tag, &[5], None); }
+        o.patch(9, if tag == 6 { b"nk" } else { b"vk" });
+        for n in [4, 5, 6, fixed + 4, fixed + 5, fixed + 20, fixed + 21] { o.length(n); for at in [4, 5, 6, n as u32, n as u32 + 1] { o.case(tag, &[at], None); } }
+        o.length(fixed + 21);
+        o.patch(5, &(-f).to_le_bytes());
+        for n in [0u16, 1] { o.patch(name_at, &n.to_le_bytes()); o.case(tag, &[5], None); }
+    }
+    // lookup: the first match, the first unreadable record, flags and letters
+    let mut m = vec![0; 100];
+    put32(&mut m, 8, 16); put32(&mut m, 12, 48);
+    value(&mut m, 16, b"@Ab[", 1, -32, [1, 2, 3]);
+    value(&mut m, 48, b"@aB[", 1, -32, [4, 5, 6]);
+    o.image(&m);
+    for name in [&b"@ab["[..], b"`ab[", b"@ab{", b"@AB[", b"@a", b"@ab[0", b""] { for count in [0, 1, 2] { o.lookup(count, 4, 0, name); } }
+    for flags in [0u16, 1, 2, 3, 0xfffe] { o.patch(36, &flags.to_le_bytes()); o.lookup(2, 4, 0, b"@AB["); }
+    for (at, x) in [(48, 0u8), (52, b'n'), (54, 30), (12, 101), (12, 90), (8, 200)] { o.patch(at, &[x]); o.lookup(2, 4, 0, b"@ab["); o.lookup(2, 4, 0, b"no"); o.patch(at, &m[at..at + 1]); }
+    o.patch(22, &[0, 0]); o.lookup(1, 4, 0, b""); o.lookup(1, 4, 0, b"a");
+    for (count, off) in [(1 << 20, 4), ((1 << 20) + 1, 4), (1, 0), (1, 99), (1, 100), (24, 4), (23, 4), (3, 88)] { for base in [0, 1, 2] { o.lookup(count, off, base, b"x"); } }
+    // hash
+    for x in [0u8, 64, 65, 90, 96, 97, 122, 123, 127, 128, 223, 224, 246, 247, 248, 254, 255] { o.case(9, &[0x20], Some(&[x])); o.case(9, &[0], Some(&[x, 0])); o.case(9, &[0], Some(&[x, 1])); }
+    for m in [&b"A"[..], b"ab", b"", b"abc"] { for flags in [0, 0x20, 0xffdf] { o.case(9, &[flags], Some(m)); } }
+    // bins and cells
+    let mut m = vec![0; 8192 + 40];
+    for (at, own, size) in [(8usize, 0u32, 4096u32), (4104, 4096, 4096)] {
+        m[at..at + 4].copy_from_slice(b"hbin");
+        put32(&mut m, at + 4, own);
+        put32(&mut m, at + 8, size);
+        put32(&mut m, at + 32, 8);
+        put32(&mut m, at + 40, (-4056i32) as u32);
+    }
+    o.image(&m);
+    for size in [0u32, 31, 32, 4095, 4096, 4097, 8191, 8192, 8193, 8223, 8224, 8225] { for base in [7, 8, 9] { o.case(10, &[base, size], None); } }
+    for base in [8232, 8233, u32::MAX] { for size in [0, 1, u32::MAX] { o.case(10, &[base, size], None); } }
+    for (at, words) in [(4108usize, [0u32, 4095, 4097, 8192]), (4112, [0, 2048, 8192, 12288]), (4136, [0, 4, 16, 4064]), (4144, [4048, 4056, 4064, 4052])] {
+        for x in words { for x in [x, x.wrapping_neg()] { o.patch(at, &x.to_le_bytes()); o.case(10, &[8, 8192], None); } }
+        o.patch(at, &m[at..at + 4]);
+    }
+    for at in [8, 11, 4104] { o.patch(at, b"x"); o.case(10, &[8, 8192], None); o.patch(at, &m[at..at + 1]); }
+    // words at and past the end
+    o.image(&[0x81, 0x92, 0xa3, 0xb4, 0xc5, 0xd6, 0xe7, 0xf8]);
+    for at in (0..10).chain([u32::MAX]) { o.case(12, &[at], None); }
+}
+
+// ---- exhaustive parts
+
+fn fixed(o: &mut Out<impl Write>) {
+    let r = &mut Rng(0);
+    all(o, r, &example(), &[4096, 4128, 4216, 4240, 4328, 4416], 4096);
+    // words at and past the end
+    for n in 0..11usize {
+        o.image(&(1..=n).map(|i| (i * 23 + 0x80 * (i % 2)) as u8).collect::<Vec<u8>>());
+        for at in (0..13).chain([0x7fffffff, 0x80000000, 0xfffffff8, 0xffffffff]) { o.case(12, &[at], None); }
+    }
+    // the checksum
+    for n in (0..10).chain(500..517).chain([4096]) {
+        for fill in [0u8, 255, 1, 0x80] { o.case(1, &[], Some(&vec![fill; n])); }
+        let mut m = vec![0; n];
+        if n >= 4 { put32(&mut m, 0, u32::MAX); }
+        o.case(1, &[], Some(&m));
+    }
+    o.case(1, &[], Some(&[0; 520]));
+    for at in 0..516 { o.patch(at, &[1 + (at % 255) as u8]); o.case(1, &[], None); }
+    // the base block: lengths, each byte of the signature, kinds, each byte of the fields
+    for n in (0..6).chain(507..514).chain([560, 575, 576, 577]).chain(4086..4099).chain([8192]) { let m = header(r, n); o.case(2, &[], Some(&m)); o.case(1, &[], None); }
+    let mut m = header(r, 4096);
+    proper(r, &mut m);
+    o.case(2, &[], Some(&m));
+    for at in 0..4 {
+        for x in [m[at] ^ 0x20, m[at] ^ 1, 0] { o.patch(at, &[x]); o.case(2, &[], None); }
+        o.patch(at, &m[at..at + 1]);
+    }
+    for t in (0..9).chain([0x100, 0x10000, 0x01000000, 0x06000000, 0x0ffffffe, 0x0fffffff, 0x80000000, u32::MAX]) {
+        o.patch(28, &t.to_le_bytes()); o.case(2, &[], None);
+        o.patch(32, &t.to_le_bytes()); o.case(2, &[], None);
+        o.patch(544, &t.to_le_bytes()); o.case(2, &[], None);
+    }
+    o.case(2, &[], Some(&{ let mut m = vec![0; 4100]; m[..4].copy_from_slice(b"regf"); m }));
+    let mut m = vec![0; 4100];
+    m[..4].copy_from_slice(b"regf");
+    proper(r, &mut m);
+    o.case(2, &[], Some(&m));
+    for at in (4..592).chain((592..4080).step_by(97)).chain(4080..4100) {
+        o.patch(at, &[m[at] ^ 0x81 ^ (at % 127) as u8]);
+        o.case(2, &[], None);
+        o.patch(at, &m[at..at + 1]);
+    }
+    // `db`: every length, and every pair of bytes at 4 and 5
+    for n in 0..10usize { for s in [b"db", b"dc", b"bd", b"Db"] {
+        let mut m = vec![0; n];
+        for i in 0..2 { if 4 + i < n { m[4 + i] = s[i]; } }
+        o.case(3, &[], Some(&m));
+    } }
+    for n in 2..10usize { for at in 0..n - 1 {
+        let mut m = vec![0; n];
+        m[at..at + 2].copy_from_slice(b"db");
+        o.case(3, &[], Some(&m));
+    } }
+    for x in 0..=u16::MAX { if x % 7 == 0 || x as u8 == b'd' || x >> 8 == b'b' as u16 { o.patch(4, &x.to_le_bytes()); o.case(3, &[], None); } }
+    // value lists: every offset around the ends, for counts, bases and rooms on both sides
+    for n in [0usize, 4, 8, 12, 64] {
+        let m: Vec<u8> = (0..n).map(|i| (i * 37 + 1) as u8).collect();
+        o.image(&m);
+        for base in [0u32, 1, 4, n as u32, n as u32 + 1, 4096, 0x7fffffff, 0x80000000, u32::MAX] {
+            for count in [0u32, 1, 2, 3, 14, 15, 16, 1 << 20, (1 << 20) + 1, u32::MAX] {
+                for offset in (0..n as u32 + 3).filter(|x| n < 64 || x % 4 < 2 || *x > 50).chain([0x7fffffff, 0x80000000, 0xffffffff, 0xfffffffc]) {
+                    o.values(count, offset, base, ENOUGH);
+                }
+            }
+        }
+        for count in 0..16 { for room in 0..17 { o.values(count, 1, 0, room); o.values(count, 4, 0, room); } }
+    }
+    // one list: kinds, counts, every length, entries on both sides of the drop; the walk of it with rooms and budgets
+    for base in [0usize, 4, 16, 4096] {
+        for kind in [b"lf", b"lh", b"li", b"ri", b"lx", b"il", b"LH", b"rI"] { for count in [0u16, 1, 2, 3, 0xffff] {
+            let mut m = vec![0; base + 32];
+            let top = u32::MAX - base as u32;
+            list(&mut m, base, kind, &[top, 16, top.wrapping_add(1), 9, 12, 13], count);
+            o.image(&m);
+            for n in 0..=32 {
+                o.length(base + n);
+                o.walk(1, 0, base as u32, BUDGET, ENOUGH);
+                o.case(11, &[base as u32], None);
+            }
+            for room in 0..4 { o.walk(1, 0, base as u32, BUDGET, room); }
+            for budget in [0, 1, 2, BUDGET, BUDGET + 1, u32::MAX] { o.walk(1, 0, base as u32, budget, ENOUGH); }
+            for at in [base + 31, base + 32, base + 33, 0xffffffff] { o.case(11, &[at as u32], None); }
+        } }
+        for count in [0u32, 1, 2, 1 << 20, (1 << 20) + 1, u32::MAX] { for budget in [0, 1, BUDGET, BUDGET + 1, u32::MAX] {
+            for off in [0u32, 1, 24, 25, 31, 32, 33, 0x7fffffff, 0x80000000, 0xfffffff0, 0xffffffff] { o.walk(count, off, base as u32, budget, 2); }
+        } }
+        // chains on both sides of level 8, with budgets and rooms on both sides
+        for depth in 1..=10usize { for leaf in [b"lf", b"lh", b"li", b"lx"] { for around in [false, true] {
+            o.image(&chain(base, depth, around, leaf));
+            for budget in (0..11).chain([BUDGET]) { o.walk(1, 0, base as u32, budget, 1); }
+            o.walk(1, 0, base as u32, BUDGET, 0);
+            if leaf != b"lx" && !around && depth > 1 { for at in 1..depth { o.walk(1, 32 * at as u32, base as u32, BUDGET, 1); } }
+        } } }
+    }
+    // every image of three lists of 16 bytes with up to two entries that name one of the three
+    let mut one: Vec<(&[u8; 2], u16, [u32; 2])> = vec![];
+    for kind in [b"ri", b"li", b"lh", b"lx"] { for count in 0..3u16 {
+        if kind == b"lh" && count == 2 { continue; }
+        let n = if kind == b"lh" { count * 2 } else { count };
+        for x in 0..3u32.pow((n as u32).min(2)) { one.push((kind, count, [16 * (x % 3), 16 * (x / 3 % 3)])); }
+        if kind == b"lx" { break; }
+    } }
+    let mut m = vec![0; 48];
+    o.image(&m);
+    for x in &one { for y in &one {
+        if x.0 != b"ri" || x.1 == 0 { continue; }
+        list(&mut m, 0, x.0, &x.2, x.1);
+        list(&mut m, 16, y.0, &y.2, y.1);
+        for z in &one {
+            list(&mut m, 32, z.0, &z.2, z.1);
+            o.case(5, &[1, 0, 0, BUDGET, ENOUGH], Some(&m));
+        }
+    } }
+    // key and value records: sizes, name lengths and image lengths around the fixed part
+    let sizes = |f: i32| vec![0, 8, f - 8, f - 4, f - 1, f, f + 1, f + 4, f + 8, f + 16, f + 24, f + 32, i32::MAX];
+    for name in 0..10usize { for n in [0usize, 1, 5, 6, 23, 24, 25, 32, 75, 76, 79, 80, 81, 87, 88, 96, 104] {
+        let mut m = vec![0x6e; n + 3];
+        key(r, &mut m, 3, &b"Name\xe9\xffxyz"[..name], 0x20, 0);
+        o.image(&m);
+        for s in sizes(80) { for s in [s, -s] { if n >= 4 {
+            o.patch(3, &s.to_le_bytes());
+            o.case(6, &[3], None);
+        } } }
+        o.patch(3, &i32::MIN.to_le_bytes()); o.case(6, &[3], None);
+        value(&mut m, 3, &b"Name\xe9\xffxyz"[..name], 1, 0, [4, 5, 6]);
+        o.image(&m);
+        for s in sizes(24) { for s in [s, -s] { if n >= 4 {
+            o.patch(3, &s.to_le_bytes());
+            o.case(7, &[3], None);
+        } } }
+        o.patch(3, &i32::MIN.to_le_bytes()); o.case(7, &[3], None);
+    } }
+    for fixed in [80usize, 24] {
+        let tag = if fixed == 80 { 6 } else { 7 };
+        let mut m = vec![0x41; fixed + 50];
+        let size = -((fixed + 24) as i32);
+        if fixed == 80 { key(r, &mut m, 8, b"A name 8", 0x20, size) } else { value(&mut m, 8, b"A name 8", 1, size, [7, 8, 9]) }
+        o.image(&m);
+        for at in (0..fixed + 54).chain([0x7fffffff, 0x80000000, 0xffffffff]) { o.case(tag, &[at as u32], None); }
+        for at in 8..fixed + 34 {
+            for x in [0, 255, m[at] ^ 1, m[at] ^ 0x80, m[at].wrapping_add(8)] { o.patch(at, &[x]); o.case(tag, &[8], None); }
+            o.patch(at, &m[at..at + 1]);
+        }
+        for n in 0..fixed + 50 { o.length(n); o.case(tag, &[8], None); o.case(tag, &[0], None); }
+        o.length(fixed + 50);
+        for n in (0..40).chain([0xff, 0x100, 0xffff]) { o.patch(if fixed == 80 { 84 } else { 14 }, &(n as u16).to_le_bytes()); o.case(tag, &[8], None); }
+    }
+    // lookup: names, flags, lengths, the first match and the first unreadable record
+    for flags in [0u16, 1, 2, 3, 0xfffe, 0xffff] { for stored in [&b""[..], b"a", b"A", b"ab", b"[", b"{", b"\xe4", b"\xc4", b"a\0", b"zZ"] {
+        let mut m = vec![0; 80];
+        for i in 0..2 { put32(&mut m, 8 + 4 * i, [16, 48][i]); }
+        value(&mut m, 16, stored, flags, -32, [1, 2, 3]);
+        value(&mut m, 48, b"A", 1, -32, [4, 5, 6]);
+        o.image(&m);
+        for name in [&b""[..], b"a", b"A", b"aB", b"{", b"[", b"\xe4", b"\xc4", b"a\0", b"Zz", b"abc"] { for count in 0..4 { o.lookup(count, 4, 0, name); } }
+        o.patch(48, &[0]); o.lookup(2, 4, 0, b"a"); o.lookup(2, 4, 0, b"none");
+        o.patch(12, &[200]); o.lookup(2, 4, 0, b"a");
+        o.patch(12, &[0xff, 0xff, 0xff, 0xff]); o.lookup(2, 4, 0, b"a"); o.lookup(2, 1, 3, b"none");
+    } }
+    for off in [0u32, 1, 79, 80, 0x80000000, 0xffffffff] { for count in [0, 1, 2, 1 << 20, (1 << 20) + 1] { for base in [0, 1, 80, 4096] { o.lookup(count, off, base, b"A"); } } }
+    // the hash: every byte, units around the table's ends, odd lengths
+    for x in 0..=255u8 { o.case(9, &[0x20], Some(&[x])); o.case(9, &[0x20], Some(&[0x41, x, 0x61])); o.case(9, &[0], Some(&[x])); }
+    for x in (0..1200u16).chain([0x1fff, 0x2160, 0xd800, 0xff41, 0xffff]) { o.case(9, &[0], Some(&x.to_le_bytes())); }
+    for n in 0..20usize { for flags in [0u32, 0x20, 0xffdf, 0xffff] { let m = r.bytes(n); o.case(9, &[flags], Some(&m)); } }
+    // bins: sizes, bases, each header word, cells on both sides of the bin's end
+    let m = bins(r, 8, 3);
+    let all = m.len() as u32 - 8;
+    o.image(&m);
+    for size in [0u32, 1, 31, 32, 4095, 4096, 4097, 8191, 8192, 12288, all - 4096, all - 1, all, all + 1, u32::MAX] {
+        for base in [0u32, 7, 8, 9, 4104, 8 + all - 1, 8 + all, 8 + all + 1, u32::MAX] { o.case(10, &[base, size], None); }
+    }
+    for at in (8..20).chain(4104..4116) {
+        for x in [0, 255, m[at] ^ 0x10, m[at] ^ 1] { o.patch(at, &[x]); o.case(10, &[8, all], None); }
+        o.patch(at, &m[at..at + 1]);
+    }
+    for n in (0..64).chain([all as usize / 2, all as usize, all as usize + 7]) { o.length(n); o.case(10, &[0, n as u32], None); o.case(10, &[8, 0], None); o.case(10, &[8, 4096], None); }
+    let mut m = vec![0; 4096];
+    m[..4].copy_from_slice(b"hbin");
+    put32(&mut m, 8, 4096);
+    o.image(&m);
+    for s in [0u32, 1, 4, 7, 8, 9, 16, 4056, 4060, 4063, 4064, 4065, 4072, 8192, 0x7fffffff, 0x80000000] { for s in [s, s.wrapping_neg()] {
+        o.patch(32, &s.to_le_bytes());
+        let next = 32 + s.min(s.wrapping_neg()) as usize;
+        for t in [4064 - 8u32, 4064 - 16, (4064 - 8u32).wrapping_neg(), 0, 4064] {
+            if next + 4 <= 4096 && next > 32 { o.patch(next, &t.to_le_bytes()); }
+            o.case(10, &[0, 4096], None);
+        }
+    } }
+    // large images, mostly zeros: lists at their end, 65,535 entries in one list, 10,101 lists
+    let mut m = vec![0; IMAGE_MOST];
+    list(&mut m, IMAGE_MOST - 16, b"li", &[5, 6], 2);
+    o.image(&m);
+    let end = (IMAGE_MOST - 16) as u32;
+    for (off, base) in [(end, 0), (0, end), (end - 1, 1), (end + 1, 0), (end, 8), (end, 9), (end, 16), (end, 17)] { o.walk(1, off, base, BUDGET, 2); }
+    for at in [end, end + 8, end + 16, end + 17] { o.case(11, &[at], None); o.case(12, &[at + 2], None); o.case(6, &[at], None); o.case(7, &[at - 8], None); }
+    for (count, off) in [(131_070, 1u32), (131_070, 4), (131_071, 1), (131_071, 4), (3, end - 4), (3, end), (4, end - 4)] { o.values(count, off, 0, 131_071); o.values(count, off, 0, 131_069); }
+    m[4..6].copy_from_slice(b"lh");
+    put16(&mut m, 6, 65535);
+    o.image(&m);
+    for room in [65535, 65534, 65536] { o.walk(1, 0, 0, BUDGET, room); }
+    o.length(IMAGE_MOST - 1);
+    o.walk(1, 0, 0, BUDGET, 65535);
+    o.length(IMAGE_MOST);
+    let mut m = vec![0; IMAGE_MOST];
+    list(&mut m, 0, b"ri", &[1024; 100], 100);
+    list(&mut m, 1024, b"ri", &[2048; 100], 100);
+    list(&mut m, 2048, b"li", &[7; 10], 10);
+    o.image(&m);
+    for (budget, room) in [(BUDGET, 100_000), (10_101, 100_000), (10_100, 100_000), (BUDGET, 99_999)] { o.walk(1, 0, 0, budget, room); }
+    list(&mut m, 1024, b"ri", &[2048; 655], 655);
+    o.image(&m);
+    for (budget, room) in [(BUDGET, 0), (65_535, 0), (65_601, 0)] { o.walk(1, 0, 0, budget, room); }
+}
+
+/// Wide lists of any numbers.
+fn wide(o: &mut Out<impl Write>) {
+    let r = &mut Rng(0);
+    for (kind, each) in [(b"li", 4), (b"lf", 8), (b"lh", 8)] {
+        let n = 65528 / each;
+        let mut m = r.bytes(65536);
+        m[4..6].copy_from_slice(kind);
+        for k in [n, n - 1, n + 1] {
+            put16(&mut m, 6, k as u16);
+            o.case(5, &[1 << 20, 0, 0, BUDGET, 20000], Some(&m));
+            o.case(11, &[0], None);
+        }
+    }
+    let m = r.bytes(65536);
+    o.image(&m);
+    for n in [1u32, 16382, 16383, 16384] { o.values(n, 4, 0, 20000); o.values(n - 1, 1, 0, 20000); }
+    let mut m = vec![0; IMAGE_MOST];
+    m[4..6].copy_from_slice(b"lh");
+    put16(&mut m, 6, 65535);
+    for i in 0..65535 { put32(&mut m, 8 + 8 * i, i as u32 * 65537); }
+    o.image(&m);
+    for base in [0, 65536] { o.walk(1, 0, base, BUDGET, 70000); }
+    o.values(131_070, 1, 0, 131_070);
+}
+
+// ---- hives
+
+/// Every record and list that can be seen in a hive, and what they name.
+fn hive(o: &mut Out<impl Write>, m: &[u8], few: bool) {
+    for tag in 1..4 { o.case(tag, &[], None); }
+    if m.len() >= 44 { o.case(10, &[4096, get32(m, 40)], None); o.case(10, &[4096, m.len() as u32 - 4096.min(m.len() as u32)], None); }
+    let places: Vec<usize> = (4096..m.len().saturating_sub(24)).step_by(8).filter(|p| p % 8 == 0).collect();
+    let mut seen = 0;
+    for p in places {
+        let sign = &m[p + 4..p + 6];
+        if few && seen > 12 && (p / 8) % 7 != 0 { continue; }
+        match sign {
+            b"nk" if p + 80 <= m.len() => {
+                seen += 1;
+                o.case(6, &[p as u32], None);
+                o.walk(get32(m, p + 24), get32(m, p + 32), 4096, 1024, ENOUGH);
+                o.values(get32(m, p + 40), get32(m, p + 44), 4096, ENOUGH);
+                let end = (p + 80 + get16(m, p + 76) as usize).min(m.len());
+                if !few { o.case(9, &[get16(m, p + 6) as u32], Some(&m[p + 80..end])); o.image(m); }
+                if get32(m, p + 40) > 0 { for name in [&b"Value0"[..], b"value1", b"VALUE0000", b""] { o.lookup(get32(m, p + 40), get32(m, p + 44), 4096, name); } }
+            }
+            b"vk" => { seen += 1; o.case(7, &[p as u32], None); }
+            b"lf" | b"lh" | b"li" | b"ri" => { o.case(11, &[p as u32], None); o.walk(1, (p - 4096) as u32, 4096, BUDGET, ENOUGH); }
+            _ => {}
+        }
+    }
+}
+
+fn hives(o: &mut Out<impl Write>, r: &mut Rng, files: &[String], cuts: usize, damaged: usize) {
+    for f in files {
+        let whole = std::fs::read(f).expect(f);
+        let m = &whole[..whole.len().min(IMAGE_MOST)];
+        o.image(m);
+        hive(o, m, false);
+        // cuts
+        for _ in 0..cuts {
+            let n = if r.chance(3) { r.range(0, m.len()) } else { r.range(4096.min(m.len()), m.len()) };
+            o.length(n);
+            hive(o, &m[..n], true);
+        }
+        o.length(m.len());
+        // damage: one to six bytes, most of them inside the part in use
+        let used = m.iter().rposition(|&x| x != 0).unwrap_or(0);
+        for _ in 0..damaged {
+            let mut d = m.to_vec();
+            for _ in 0..r.range(1, 6) {
+                let at = if r.chance(8) { r.range(0, 4095) } else { r.range(4096.min(used), used) };
+                d[at] = if r.chance(2) { r.next() as u8 } else { d[at] ^ (1 << r.below(8)) };
+                let x = d[at];
+                o.patch(at, &[x]);
+            }
+            hive(o, &d, true);
+            o.image(m);
+        }
+    }
+}
+
+/// The samples that are stored: a share of all of these. `rust`: only what the Rust has.
+fn stored(o: &mut Out<impl Write>, seed: u64, files: &[String], rust: bool) {
+    o.pick = Rng(seed);
+    //                   checksum, block, db, values, walk, key, value, lookup, hash, bins, list, words
+    let shares: [[u64; 16]; 3] = if rust {
+        [[0, 16, 24, 60, 20, 24, 6, 16, 0, 0, 0, 24, 0, 0, 0, 0], [0, 4, 2, 8, 2, 2, 2, 6, 0, 0, 0, 6, 0, 0, 0, 0], [0, 3, 6, 6, 3, 2, 2, 6, 0, 0, 0, 2, 0, 0, 0, 0]]
+    } else {
+        [[0, 8, 80, 10, 3, 7, 10, 10, 4, 1, 1, 12, 1, 0, 0, 0], [0, 8, 16, 8, 1, 1, 5, 5, 1, 1, 2, 3, 3, 0, 0, 0], [0, 3, 12, 3, 2, 1, 3, 3, 3, 1, 1, 1, 0, 0, 0, 0]]
+    };
+    o.one_in = if rust { [0, 1, 1, 1, 1, 1, 1, 1, 0, 0, 0, 1, 0, 0, 0, 0] } else { [1; 16] };
+    boundaries(o);
+    o.one_in = shares[0];
+    fixed(o);
+    o.one_in = shares[1];
+    rounds(o, &mut Rng(seed), 20, SMALL);
+    o.one_in = shares[2];
+    hives(o, &mut Rng(seed), files, 1, 3);
+}
+
+// ---- random rounds
+
+fn all(o: &mut Out<impl Write>, r: &mut Rng, m: &[u8], places: &[usize], base: u32) {
+    o.case(1, &[], Some(m));
+    o.case(2, &[], None);
+    o.case(3, &[], None);
+    o.case(10, &[base, m.len() as u32 - base.min(m.len() as u32)], None);
+    for &p in places {
+        for q in [p, p + 1, p.wrapping_sub(4)] {
+            for tag in [6, 7, 11, 12] { o.case(tag, &[q as u32], None); }
+            o.walk(1, (q as u32).wrapping_sub(base), base, BUDGET, ENOUGH);
+            let n = r.below(9) as u32;
+            o.values(n, (q as u32).wrapping_sub(base), base, ENOUGH);
+        }
+    }
+}
+
+fn records(o: &mut Out<impl Write>, r: &mut Rng, most: usize) {
+    for _ in 0..6 {
+        let n = r.range(80, most);
+        let p = r.range(0, 16);
+        let mut m = r.bytes(p + n);
+        let len = if r.chance(8) { r.range(0, 400) } else { r.range(0, (n - 80).min(40)) };
+        let mut name = r.bytes(len);
+        if r.chance(2) { for x in &mut name { *x = r.pick(b"ABCxyz019 _\xe4\xff"); } }
+        let flags = if r.chance(4) { r.next() as u16 } else { r.pick(&[0x20u16, 0x20, 0, 0x2c, 0x1020, 4]) };
+        let size = match r.below(6) { 0 => r.word() as i32, 1 => n as i32, _ => -((n & !7) as i32) };
+        key(r, &mut m, p, &name, flags, size);
+        if r.chance(20) { m[p + 4] ^= 1; }
+        o.case(6, &[p as u32], Some(&m));
+        // the same record under other sizes, name lengths, and cuts
+        for _ in 0..5 { let s = -(8 * if r.chance(5) { r.range(9, n / 8 + 1) } else { r.range(10, n / 8) } as i32); o.patch(p, &s.to_le_bytes()); o.case(6, &[p as u32], None); }
+        for _ in 0..3 { let s = r.range(0, n - 80 + 8) as u16; o.patch(p + 76, &s.to_le_bytes()); o.case(6, &[p as u32], None); }
+        for _ in 0..4 { let at = r.range(0, 79); let x = r.next() as u8; o.patch(p + at, &[x]); o.case(6, &[p as u32], None); }
+        for _ in 0..2 { let k = r.range(0, p + n); o.length(k); o.case(6, &[p as u32], None); }
+        o.length(p + n);
+        for _ in 0..2 { let q = r.range(0, p + n + 2); o.case(6, &[q as u32], None); o.case(7, &[q as u32], None); }
+        let (len, spare) = (r.range(0, 30), r.range(0, 20));
+        let mut v = r.bytes(p + 24 + len + spare);
+        let name = r.bytes(len);
+        let size = match r.below(6) { 0 => r.word() as i32, 1 => (24 + len + spare) as i32, _ => -(((24 + len + spare) & !7) as i32) };
+        let data = [r.word(), r.word(), r.word()];
+        value(&mut v, p, &name, r.pick(&[0u16, 1, 1, 2, 3, 16]), size, data);
+        o.case(7, &[p as u32], Some(&v));
+        for _ in 0..3 { let at = r.range(0, 23); let x = r.next() as u8; o.patch(p + at, &[x]); o.case(7, &[p as u32], None); }
+    }
+}
+
+/// The greatest number of bytes of: images with lists, with records, of noise.
+struct Most(usize, usize, usize);
+const USUAL: Most = Most(2048, 400, 300);
+const SMALL: Most = Most(200, 130, 40);
+
+fn rounds(o: &mut Out<impl Write>, r: &mut Rng, rounds: u64, most: Most) {
+    for _ in 0..rounds {
+        let n = r.pick(&[508, 509, 512, 600, 507, 4096]);
+        let m = r.bytes(n);
+        o.case(1, &[], Some(&m));
+        let n = r.pick(&[4096, 4096, 4096, 4100, 4095, 5000]);
+        let m = header(r, n);
+        o.case(2, &[], Some(&m));
+        o.case(1, &[], None);
+        let n = r.range(0, 12);
+        let mut m = r.bytes(n);
+        if m.len() > 5 && r.chance(2) { m[4..6].copy_from_slice(b"db"); }
+        o.case(3, &[], Some(&m));
+        // lists and value lists
+        for _ in 0..4 {
+            let base = r.pick(&[0usize, 0, 4, 16, 31, 32, most.0 / 4]);
+            let (m, places) = lists(r, base, most.0);
+            o.image(&m);
+            let b = base as u32;
+            for &p in &places {
+                let count = 1 + r.below(9) as u32;
+                o.walk(count, (p - base) as u32, b, BUDGET, ENOUGH);
+                let (budget, room) = (r.below(14) as u32, r.below(30) as u32);
+                o.walk(count, (p - base) as u32, b, budget, ENOUGH);
+                o.walk(count, (p - base) as u32, b, BUDGET, room);
+                o.case(11, &[p as u32], None);
+            }
+            for _ in 0..8 {
+                let (count, off) = (r.range(0, 40) as u32, r.range(0, m.len() + 4) as u32);
+                o.values(count, off, b, r.pick(&[ENOUGH, ENOUGH, ENOUGH, count, count.saturating_sub(1)]));
+                o.walk(1, off, b, BUDGET, ENOUGH);
+            }
+            // one byte of a list's header or entries changed, and the walk again
+            for &p in places.iter().take(4) {
+                let at = p + r.range(0, 15);
+                if at < m.len() {
+                    let x = r.next() as u8;
+                    o.patch(at, &[x]);
+                    for &q in places.iter().take(3) { o.walk(1, (q - base) as u32, b, BUDGET, ENOUGH); }
+                    o.patch(at, &m[at..at + 1]);
+                }
+            }
+            let (x, y, z) = (r.word(), r.word(), r.word());
+            o.values(x, y, z, ENOUGH);
+            o.walk(x, y, z, BUDGET, ENOUGH);
+        }
+        records(o, r, most.1);
+        // lookup
+        for _ in 0..2 {
+            let (base, count) = (r.pick(&[0usize, 32]), r.range(0, 6));
+            let (m, off, names) = valued(r, base, count);
+            o.image(&m);
+            for _ in 0..4 {
+                let mut name = if names.is_empty() || r.chance(5) { b"none".to_vec() } else { names[r.range(0, names.len() - 1)].clone() };
+                for x in &mut name { if r.chance(4) { *x ^= 0x20; } }
+                let n = if r.chance(6) { count as u32 + 1 } else { count as u32 };
+                o.lookup(n, off, base as u32, &name);
+            }
+            o.values(count as u32, off, base as u32, ENOUGH);
+        }
+        // hash
+        let n = r.range(0, 40);
+        let m = r.bytes(n);
+        let flags = r.next() as u16;
+        o.case(9, &[flags as u32], Some(&m));
+        // bins, whole and damaged
+        let (base, count) = (r.pick(&[0usize, 32, 4096]), r.range(0, 3));
+        let mut m = bins(r, base, count);
+        let size = (m.len() - base) as u32;
+        o.case(10, &[base as u32, size], Some(&m));
+        if !m.is_empty() && size > 0 {
+            for _ in 0..8 {
+                let at = if r.chance(3) { base + r.range(0, 15) } else { base + r.range(0, size as usize - 1) };
+                let x = if r.chance(2) { r.next() as u8 } else { m[at] ^ (1 << r.below(8)) };
+                o.patch(at, &[x]);
+                o.case(10, &[base as u32, size], None);
+                o.patch(at, &m[at..at + 1]);
+            }
+            let n = r.range(0, m.len());
+            m.truncate(n);
+            o.length(n);
+            o.case(10, &[base as u32, size], None);
+            o.case(10, &[base as u32, n as u32], None);
+        }
+        // damaged copies of the example, and noise
+        let mut m = example();
+        for _ in 0..r.range(1, 6) {
+            let at = if r.chance(3) { r.range(0, m.len() - 1) } else { r.range(4096, 4440) };
+            m[at] = if r.chance(2) { r.next() as u8 } else { m[at] ^ (1 << r.below(8)) };
+        }
+        if r.chance(4) { let n = r.range(4096, 4500); m.truncate(n); }
+        all(o, r, &m, &[4096, 4128, 4216, 4240, 4328], 4096);
+        let n = r.range(0, most.2);
+        let m = r.bytes(n);
+        let p = r.range(0, n);
+        all(o, r, &m, &[p], 0);
+    }
+}
+
+fn main() {
+    let args: Vec<String> = std::env::args().skip(1).collect();
+    let number = |i: usize| args.get(i).and_then(|s| s.parse::<u64>().ok());
+    let to = BufWriter::with_capacity(1 << 16, std::io::stdout().lock());
+    let mut o = Out::new(to, [1; 16], 0);
+    match (args.first().map(|s| s.as_str()), number(0), number(1)) {
+        (Some("fixed"), _, _) => { boundaries(&mut o); fixed(&mut o); wide(&mut o) }
+        (Some("hives"), _, Some(seed)) => hives(&mut o, &mut Rng(seed), &args[2..], 12, 40),
+        (Some("stored"), _, Some(seed)) => stored(&mut o, seed, &args[2..], false),
+        (Some("stored-rust"), _, Some(seed)) => {
+            if args[2] != "-" { o.marked = Some(std::fs::read(&args[2]).expect("a list of marks")); }
+            stored(&mut o, seed, &args[3..], true)
+        }
+        (_, Some(seed), Some(n)) => rounds(&mut o, &mut Rng(seed), n, USUAL),
+        _ => { eprintln!("usage: cases fixed | hives SEED FILE.. | stored SEED FILE.. | stored-rust SEED MARKS FILE.. | SEED ROUNDS"); std::process::exit(2) }
+    }
+    o.to.flush().unwrap();
+    eprintln!("{} cases", o.cases);
+}

@@ -1,0 +1,64 @@
+#!/usr/bin/env python3
+"""compare/stored.py SEED HIVE..: what the stored cases are, for compare/STORED.md. Exit 1 where a refusal of a function is not among
+them."""
+import collections
+import os
+import sys
+
+NAMES = {1: "checksum", 2: "base block", 3: "`is_big_data_block`", 4: "value list", 5: "subkey walk", 6: "key record", 7: "value record",
+         8: "lookup", 9: "name hash", 10: "bins and cells", 11: "one list", 12: "words"}
+# what document 01 lets each function be refused by
+REFUSALS = {1: [1], 2: [1, 4], 4: [2, 6, 7, 8, 9], 5: [2, 4, 7, 8, 9, 13, 14, 15], 6: [1, 2, 3, 4, 5], 7: [1, 2, 3, 4, 5],
+            8: [1, 2, 3, 4, 5, 6, 7, 8, 16], 9: [5], 10: [8, 10, 11], 11: [2, 4, 8]}
+
+
+def counted(path):
+    counts = collections.defaultdict(collections.Counter)
+    for line in open(path):
+        tag, answer, *rest = line.split()
+        counts[int(tag)][f"{answer} {rest[0]}" if answer == "refused" else answer] += 1
+    return counts
+
+
+def size(crate):
+    return sum(os.path.getsize(f"crates/{crate}/{f}") for f in ("stdin", "stdout"))
+
+
+seed, hives = sys.argv[1], [os.path.basename(h) for h in sys.argv[2:]]
+paper, rust = counted("crates/replay_paper/stdout"), counted("crates/replay_rust/stdout")
+missing = [(NAMES[t], n) for t, ns in REFUSALS.items() for n in ns if not paper[t][f"refused {n}"]]
+total = lambda counts: sum(sum(c.values()) for c in counts.values())
+print(f"""# The stored cases
+
+Made by `compare/store {seed}` (seed {seed}), which writes this file, and replayed by proved programs in `rt ci`, so that the gate needs neither
+the Rust nor Python. The stream and the lines are described in compare/README.md.
+
+The cases are shares, picked by the seed, of what `judge/src/bin/cases.rs` makes: boundaries on both sides and short inputs
+exhaustively (`fixed`), random and damaged images (`rounds`), and hives that other people's software wrote, with cuts and damaged
+copies (`hives`): {", ".join(hives)}.
+
+## crates/replay_paper: {total(paper):,} cases, {size("replay_paper") // 1000} KB, answers of compare/paper.py
+
+| Function | Cases | Success | Refused by number: cases |
+|---|---|---|---|""")
+for tag in sorted(paper):
+    c = paper[tag]
+    numbers = sorted((int(k.split()[1]), n) for k, n in c.items() if k.startswith("refused"))
+    print(f"| {NAMES[tag]} | {sum(c.values())} | {c['ok']} | {', '.join(f'{k}: {n}' for k, n in numbers)} |")
+print(f"""
+## crates/replay_rust: {total(rust):,} cases, {size("replay_rust") // 1000} KB, the Rust's own answers
+
+Only cases that 01 compares (and, beyond 01, value records and single lists), and of these only such whose times, texts and flags the
+Rust's conversions keep whole: a FILETIME from 1677 to 2262, 8-bit names, 16-bit names that are valid and have no NUL, flags that the
+Rust knows. What is kept is decided by the case's input alone, never by the answer.
+
+| Function | Cases | Values | Error | Empty |
+|---|---|---|---|---|""")
+for tag in sorted(rust):
+    c = rust[tag]
+    print(f"| {NAMES[tag]} | {sum(c.values())} | {c['ok']} | {c['error']} | {c['empty']} |")
+print()
+if missing:
+    print("MISSING: " + ", ".join(f"{f} {n}" for f, n in missing))
+    sys.exit(1)
+print(f"Every refusal of every function is among the {total(paper):,} cases.")

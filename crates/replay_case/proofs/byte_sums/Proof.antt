@@ -1,0 +1,68 @@
+use Prim.Native.Nat.{_≤_, _-_}
+use mathlib.Core.Path.{_≡_}
+use lib.ListN.{length}
+use native.Mathlib.Omega.{arith}
+use Rattle.replay_case.specs.Sums.{sumsOf}
+use Rattle.replay_case.proofs.Laws.{sums-more}
+use Rattle.words.specs.Words.{byteAt}
+use borrow.Author.Needs.{needs}
+use Rattle.replay_case.proofs.byte_sums.Statement.{statement}
+use Rattle.replay_case.proofs.byte_sums.Tie as tie
+use Rattle.replay_case.proofs.byte_sums.Reads as reads
+use Rattle.replay_case.proofs.byte_sums.Lts as lts
+use Rattle.replay_case.proofs.more.Reads as more-reads
+use Rattle.words.proofs.byte_at.Reads as byte-at-reads
+
+abbrev Inv-loop : tie.InvT-loop
+Inv-loop row sums₀ i₀ sums i = (i ≤ length row) × (sums ≡ sumsOf (byteAt row) i)
+
+abbrev μ-loop : tie.MeasureT-loop
+μ-loop row sums₀ i₀ sums i = length row - i
+
+-- src/lib.rt:79:5
+loop-holds : tie.Need-loop-holds Inv-loop μ-loop
+unfolding sumsOf
+loop-holds c = search needs
+
+-- src/lib.rt:80:27
+byte-at-requires : tie.Need-byte-at-requires Inv-loop μ-loop
+byte-at-requires c κs = search needs
+
+-- src/lib.rt:80:27
+cast-more : tie.Need-cast-more Inv-loop μ-loop
+cast-more c = search needs
+
+-- src/lib.rt:80:9
+more-requires : tie.Need-more-requires Inv-loop μ-loop
+more-requires c κs = search needs
+
+-- src/lib.rt:81:9
+add-i : tie.Need-add-i Inv-loop μ-loop
+add-i c = search needs
+
+-- src/lib.rt:79:5
+loop-less : tie.Need-loop-less Inv-loop μ-loop
+loop-less c = search needs
+
+-- src/lib.rt:79:5
+loop-again : tie.Need-loop-again Inv-loop μ-loop
+loop-again c = (search needs, cc (sums-more (byteAt (c .before .before .before .before .before .args .row .now)) (c .before .before .before .loop .i)))
+
+-- src/lib.rt:71:1
+returns : tie.Need-returns Inv-loop μ-loop
+returns c = let e : c .before .loop .i ≡ length (c .before .before .before .args .row .now) = omega arith in cc
+
+pub byte-sums-spec : {M : Type 1} → statement M
+byte-sums-spec =
+    tie.close
+    (tie.spec
+    Inv-loop
+    μ-loop
+    loop-holds
+    byte-at-requires
+    cast-more
+    more-requires
+    add-i
+    loop-less
+    loop-again
+    returns)

@@ -1,0 +1,61 @@
+//! Times the walk over a leaf list of 65,535 entries that `ri` lists name many times.
+use std::hint::black_box;
+use std::time::Instant;
+
+extern "C" {
+    fn walk_entries(image: *const u8, image_len: usize, base: u32, count: u32, list: u32, budget: u32, out: *mut u32, out_len: usize) -> u32;
+}
+
+const LEAF: usize = 65_535;
+
+/// A leaf list at 0, and behind it `ri` lists, one below another, of which the lowest names the leaf `times` times and each other the next.
+fn image(kind: &[u8; 2], entry: usize, times: usize, levels: usize) -> (Vec<u8>, u32) {
+    let mut s = vec![0u8; 4];
+    s.extend(kind);
+    s.extend((LEAF as u16).to_le_bytes());
+    for i in 0..LEAF {
+        s.extend((i as u32 * 8).to_le_bytes());
+        s.resize(s.len() + entry - 4, 0);
+    }
+    let mut named = 0u32;
+    let mut count = times;
+    for _ in 0..levels - 1 {
+        let at = s.len() as u32;
+        s.extend([0, 0, 0, 0, b'r', b'i']);
+        s.extend((count as u16).to_le_bytes());
+        for _ in 0..count {
+            s.extend(named.to_le_bytes());
+        }
+        named = at;
+        count = 1;
+    }
+    (s, named)
+}
+
+fn main() {
+    let runs: usize = std::env::args().nth(1).map_or(60, |x| x.parse().unwrap());
+    for (kind, entry) in [(b"li", 4), (b"lh", 8)] {
+        for levels in [2, 8] {
+            for times in [16, 153] {
+                let (s, list) = image(kind, entry, times, levels);
+                let mut out = vec![0u32; LEAF * times];
+                let mut least = f64::MAX;
+                let mut entries = 0;
+                for _ in 0..runs {
+                    out.fill(0);
+                    let b = black_box(&s[..]);
+                    let o = black_box(&mut out[..]);
+                    let t = Instant::now();
+                    entries = unsafe { walk_entries(b.as_ptr(), b.len(), 0, 1, list, 65_536, o.as_mut_ptr(), o.len()) };
+                    least = least.min(t.elapsed().as_secs_f64());
+                }
+                assert_eq!(entries as usize, LEAF * times);
+                assert!(out.iter().enumerate().all(|(i, v)| *v == (i % LEAF) as u32 * 8));
+                println!(
+                    "{} {} levels: {} entries, {:.3} ms, {:.3} ns an entry",
+                    std::str::from_utf8(kind).unwrap(), levels, entries, least * 1e3, least * 1e9 / entries as f64
+                );
+            }
+        }
+    }
+}

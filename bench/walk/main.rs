@@ -32,30 +32,46 @@ fn image(kind: &[u8; 2], entry: usize, times: usize, levels: usize) -> (Vec<u8>,
     (s, named)
 }
 
+struct Case {
+    name: String,
+    image: Vec<u8>,
+    list: u32,
+    places: usize,
+    times: Vec<f64>,
+}
+
 fn main() {
     let runs: usize = std::env::args().nth(1).map_or(60, |x| x.parse().unwrap());
+    let mut cases = Vec::new();
     for (kind, entry) in [(b"li", 4), (b"lh", 8)] {
         for levels in [2, 8] {
             for times in [16, 153] {
-                let (s, list) = image(kind, entry, times, levels);
-                let mut out = vec![0u32; LEAF * times];
-                let mut least = f64::MAX;
-                let mut entries = 0;
-                for _ in 0..runs {
-                    out.fill(0);
-                    let b = black_box(&s[..]);
-                    let o = black_box(&mut out[..]);
-                    let t = Instant::now();
-                    entries = unsafe { walk_entries(b.as_ptr(), b.len(), 0, 1, list, 65_536, o.as_mut_ptr(), o.len()) };
-                    least = least.min(t.elapsed().as_secs_f64());
-                }
-                assert_eq!(entries as usize, LEAF * times);
-                assert!(out.iter().enumerate().all(|(i, v)| *v == (i % LEAF) as u32 * 8));
-                println!(
-                    "{} {} levels: {} entries, {:.3} ms, {:.3} ns an entry",
-                    std::str::from_utf8(kind).unwrap(), levels, entries, least * 1e3, least * 1e9 / entries as f64
-                );
+                let (image, list) = image(kind, entry, times, levels);
+                let name = format!("{} {levels}", std::str::from_utf8(kind).unwrap());
+                cases.push(Case { name, image, list, places: LEAF * times, times: Vec::new() });
             }
         }
+    }
+    let mut out = vec![0u32; LEAF * 153];
+    // the cases take turns, so that a moment in which the machine is busy falls on all of them alike
+    for _ in 0..runs {
+        for c in cases.iter_mut() {
+            let o = black_box(&mut out[..c.places]);
+            o.fill(0);
+            let b = black_box(&c.image[..]);
+            let t = Instant::now();
+            let entries = unsafe { walk_entries(b.as_ptr(), b.len(), 0, 1, c.list, 65_536, o.as_mut_ptr(), o.len()) };
+            c.times.push(t.elapsed().as_secs_f64());
+            assert_eq!(entries as usize, c.places);
+            assert!(o.iter().enumerate().all(|(i, v)| *v == (i % LEAF) as u32 * 8));
+        }
+    }
+    for c in cases.iter_mut() {
+        c.times.sort_by(f64::total_cmp);
+        let (least, median) = (c.times[0], c.times[runs / 2]);
+        println!(
+            "{}: {} entries, least {:.2} ms, median {:.2} ms, {:.2} ns an entry at the least",
+            c.name, c.places, least * 1e3, median * 1e3, least * 1e9 / c.places as f64
+        );
     }
 }

@@ -4,7 +4,6 @@ use mathlib.Core.Path.{_≡_, ap, sym, _∙_}
 use mathlib.Core.List.{List}
 use Prim.Native.Nat.{ℕ}
 use native.Mathlib.Omega.{arith}
-use Rattle.words.specs.Paper.{Paper}
 use Rattle.words.proofs.Papers.{success-refused, same-success, same-told, same-refusal}
 use Rattle.sub_key_list.specs.Lists.{leaf, index, listPaper, listAt, LeafAnswered}
 use Rattle.sub_key_list.specs.declared.LeafList.{LeafList}

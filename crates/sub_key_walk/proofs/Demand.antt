@@ -1,8 +1,8 @@
 -- Demand 3, of the definitions that `sub_keys` is proved equal to, and last of its answer itself (`demand-3`). Assumes nothing.
 use mathlib.Core.Path.{_≡_, refl, ap, sym, _∙_}
-use mathlib.Core.List.{List, [], _∷_, _++_}
+use mathlib.Core.List.{List, _++_}
 use mathlib.Core.Bool.{Bool, true, false, cond}
-use Prim.Native.Nat.{ℕ, _+_, _*_, _≤_, _<_, min}
+use Prim.Native.Nat.{ℕ, _+_, _*_, _≤_, min}
 use native.Mathlib.Nat.{zero-add}
 use native.Mathlib.Omega.{arith}
 use borrow.Author.Tests.{le-ltb, ltb-false}
@@ -12,8 +12,8 @@ use Rattle.words.specs.Paper.{Told, Paper, success, refused}
 use Rattle.words.proofs.Papers.{success-refused, same-success}
 use Rattle.sub_key_walk.specs.Trace.{Event, walkFrom, keptOf, listsOf, entriesOf}
 use Rattle.sub_key_walk.specs.Judge.{judge}
-use Rattle.sub_key_walk.specs.Answers.{BUDGET-LIMIT, COUNT-LIMIT, none, noRoom, inRoom, answerOf, keptBy, bufferAfter, walkTold, walkPaper, Answered}
-use Rattle.sub_key_walk.specs.Free.{All, Fine, Met, countsOf, Full, front, listsRead, listsBy, Succeeds}
+use Rattle.sub_key_walk.specs.Answers.{BUDGET-LIMIT, COUNT-LIMIT, none, noRoom, inRoom, answerOf, bufferAfter, walkTold, walkPaper, Answered}
+use Rattle.sub_key_walk.specs.Free.{All, Met, countsOf, Full, front, listsRead, listsBy, Succeeds}
 use Rattle.sub_key_walk.specs.declared.Counts.{Counts}
 use Rattle.sub_key_walk.specs.declared.WalkRefusal.{WalkRefusal}
 use Rattle.sub_key_walk.specs.declared.WalkAnswer.{WalkAnswer}

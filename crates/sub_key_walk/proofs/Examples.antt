@@ -1,12 +1,12 @@
 -- Document 01's starred examples of lists and of the walk, proved of the definitions by computing them, under one statement.
 -- Assumes nothing.
 use mathlib.Core.Path.{_≡_, refl}
-use mathlib.Core.List.{List, [], _∷_, _++_}
+use mathlib.Core.List.{List, [], _∷_}
 use Prim.Native.Nat.{ℕ}
 use lib.ListN.{take}
 use Rattle.words.specs.Words.{little}
 use Rattle.words.specs.Refusals.{BAD-SIGN, CUT-SHORT, TOO-DEEP, OUT-OF-STEPS}
-use Rattle.words.specs.Paper.{Paper, success, refused, by}
+use Rattle.words.specs.Paper.{success, refused, by}
 use Rattle.sub_key_list.specs.Lists.{LI, LH, entrySize, ofKind, listAt, keep, leafKept}
 use Rattle.sub_key_list.specs.Lists as lists
 use Rattle.sub_key_walk.specs.Trace.{each, below, trace, keptIn, keptOf, listsIn, entriesIn}

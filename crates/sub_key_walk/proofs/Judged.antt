@@ -9,7 +9,7 @@ use lib.Dec.{eqb}
 use lib.ListN.{length, length-append}
 use Rattle.words.specs.Paper.{Paper, success, refused}
 use Rattle.words.proofs.Papers.{success-refused, same-success}
-use Rattle.sub_key_walk.specs.Trace.{Event, deep, bad, index, leaf, keptIn, keptOf, listsIn, listsOf, entriesIn, entriesOf}
+use Rattle.sub_key_walk.specs.Trace.{Event, deep, bad, index, leaf, keptIn, keptOf, listsIn, listsOf, entriesOf}
 use Rattle.sub_key_walk.specs.Judge.{fault, counted, inBudget, one, after, judge}
 use Rattle.sub_key_walk.specs.Free.{All, front, listsBy}
 use Rattle.sub_key_walk.specs.declared.Counts.{Counts}

@@ -1,16 +1,15 @@
 -- What the lists of a trace are. Assumes nothing.
 use mathlib.Core.Path.{_≡_, refl, ap, sym, subst, _∙_}
 use mathlib.Core.List.{List, [], _∷_, _++_}
-use mathlib.Core.Bool.{Bool, true, false, cond}
+use mathlib.Core.Bool.{Bool, true, false}
 use Prim.Native.Nat.{ℕ, zero, suc, _+_, _-_, _*_, _≤_, _<_}
 use native.Mathlib.Nat.{suc-mul, mul-add}
 use native.Mathlib.Omega.{arith}
-use borrow.Author.Tests.{eq-eqb, ne-eqb, le-ltb, eqb-true, eqb-false, ltb-false}
+use borrow.Author.Tests.{ne-eqb, le-ltb, eqb-true, eqb-false, ltb-false}
 use lib.Dec.{eqb, ltb}
 use lib.ListN.{length, length-append}
 use Rattle.words.specs.Words.{word32}
-use Rattle.words.specs.Refusals.{OUTSIDE, BAD-SIGN, CUT-SHORT}
-use Rattle.words.specs.Paper.{Told, Paper, success, refused, by}
+use Rattle.words.specs.Paper.{Told, Paper, success, refused}
 use Rattle.words.proofs.Papers.{success-refused}
 use Rattle.sub_key_list.specs.Lists.{LF, LH, LI, RI, entrySize, Listed, ofKind, kindAt, countAt, listAt, leafKept}
 use Rattle.sub_key_list.specs.Lists as lists

@@ -2,30 +2,23 @@ use borrow.Author.Tests.{eq-eqb, ne-eqb}
 use Rattle.sub_key_list.specs.Lists.{entrySize}
 use Rattle.sub_key_list.proofs.entry_size.Statement.{statement}
 use Rattle.sub_key_list.proofs.entry_size.Tie as tie
-use Rattle.sub_key_list.proofs.entry_size.Reads as reads
-use Rattle.sub_key_list.proofs.entry_size.Lts as lts
 
--- src/lib.rt:21:9
 returns : tie.Need-returns
 unfolding entrySize
 returns c = simp (eq-eqb _ _ (c .if1 .taken))
 
--- src/lib.rt:24:9
 returns-2 : tie.Need-returns-2
 unfolding entrySize
 returns-2 c = simp (ne-eqb _ _ (c .before .if1 .left), eq-eqb _ _ (c .if2 .taken))
 
--- src/lib.rt:27:9
 returns-3 : tie.Need-returns-3
 unfolding entrySize
 returns-3 c = simp (ne-eqb _ _ (c .before .before .if1 .left), ne-eqb _ _ (c .before .if2 .left), eq-eqb _ _ (c .if3 .taken))
 
--- src/lib.rt:30:9
 returns-4 : tie.Need-returns-4
 unfolding entrySize
 returns-4 c = simp (ne-eqb _ _ (c .before .before .before .if1 .left), ne-eqb _ _ (c .before .before .if2 .left), ne-eqb _ _ (c .before .if3 .left), eq-eqb _ _ (c .if4 .taken))
 
--- src/lib.rt:17:1
 returns-5 : tie.Need-returns-5
 unfolding entrySize
 returns-5 c = simp (ne-eqb _ _ (c .before .before .before .if1 .left), ne-eqb _ _ (c .before .before .if2 .left), ne-eqb _ _ (c .before .if3 .left), ne-eqb _ _ (c .if4 .left))

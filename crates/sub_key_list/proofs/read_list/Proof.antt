@@ -4,94 +4,70 @@ use Rattle.sub_key_list.proofs.Cases.{entries-fit, list-outside, list-c
 use borrow.Author.Needs.{needs}
 use Rattle.sub_key_list.proofs.read_list.Statement.{statement}
 use Rattle.sub_key_list.proofs.read_list.Tie as tie
-use Rattle.sub_key_list.proofs.read_list.Reads as reads
-use Rattle.sub_key_list.proofs.read_list.Lts as lts
-use Rattle.sub_key_list.proofs.entry_size.Reads as entry-size-reads
-use Rattle.sub_key_list.proofs.refuse.Reads as refuse-reads
-use Rattle.words.proofs.u16_at.Reads as u16-at-reads
 
--- src/lib.rt:76:9
 refuse-requires : tie.Need-refuse-requires
 refuse-requires c κs = search needs
 
--- src/lib.rt:76:9
 returns : tie.Need-returns
 returns c =
     c .refuse .ensures ∙ list-outside _ _ (c .before .if1 .taken)
 
--- src/lib.rt:78:16
 sub-left : tie.Need-sub-left
 sub-left c = search needs
 
--- src/lib.rt:80:9
 refuse-requires-2 : tie.Need-refuse-requires-2
 refuse-requires-2 c κs = search needs
 
--- src/lib.rt:80:9
 returns-2 : tie.Need-returns-2
 returns-2 c =
     c .refuse2 .ensures ∙ list-cut _ _ (c .before .before .if1 .left) (c .before .if2 .taken)
 
--- src/lib.rt:82:42
 add-u16-at : tie.Need-add-u16-at
 add-u16-at c = search needs
 
--- src/lib.rt:82:9
 u16-at-requires : tie.Need-u16-at-requires
 u16-at-requires c κs = search needs
 
--- src/lib.rt:83:38
 add-u16-at-2 : tie.Need-add-u16-at-2
 add-u16-at-2 c = search needs
 
--- src/lib.rt:83:9
 u16-at-requires-2 : tie.Need-u16-at-requires-2
 u16-at-requires-2 c κs = search needs
 
--- src/lib.rt:84:9
 entry-size-requires : tie.Need-entry-size-requires
 entry-size-requires c κs = search needs
 
--- src/lib.rt:86:9
 refuse-requires-3 : tie.Need-refuse-requires-3
 refuse-requires-3 c κs = search needs
 
--- src/lib.rt:86:9
 returns-3 : tie.Need-returns-3
 returns-3 c =
     let e = c .before .before in
     c .refuse3 .ensures ∙ list-unknown _ _ (e .before .before .before .before .if1 .left) (e .before .before .before .if2 .left) (e .before .before .u16-at .ensures) (e .before .u16-at2 .ensures) (e .entry-size .ensures) (c .before .if3 .taken)
 
--- src/lib.rt:88:20
 cast-entries : tie.Need-cast-entries
 cast-entries c = search needs
 
--- src/lib.rt:88:38
 cast-entries-2 : tie.Need-cast-entries-2
 cast-entries-2 c = search needs
 
--- src/lib.rt:88:19
 mul-entries : tie.Need-mul-entries
 mul-entries c =
     omega (arith, entries-fit (c .before .entry-size .result) (c .before .before .u16-at2 .result) (c .before .entry-size .ok) (c .before .before .u16-at2 .ok))
 
--- src/lib.rt:90:9
 refuse-requires-4 : tie.Need-refuse-requires-4
 refuse-requires-4 c κs = search needs
 
--- src/lib.rt:90:9
 returns-4 : tie.Need-returns-4
 returns-4 c =
     let e = c .before .before .before in
     c .refuse4 .ensures ∙ list-passes _ _ (e .before .before .before .before .if1 .left) (e .before .before .before .if2 .left) (e .before .before .u16-at .ensures) (e .before .u16-at2 .ensures) (e .entry-size .ensures) (c .before .before .if3 .left) (c .before .if4 .taken)
 
--- src/lib.rt:93:9
 returns-5 : tie.Need-returns-5
 returns-5 c =
     let e = c .before .before .before in
     list-index _ _ (e .before .before .before .before .if1 .left) (e .before .before .before .if2 .left) (e .before .before .u16-at .ensures) (e .before .u16-at2 .ensures) (e .entry-size .ensures) (c .before .before .if3 .left) (c .before .if4 .left) (c .if5 .taken)
 
--- src/lib.rt:72:1
 returns-6 : tie.Need-returns-6
 returns-6 c =
     let e = c .before .before .before in

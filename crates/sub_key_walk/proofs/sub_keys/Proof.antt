@@ -4,85 +4,61 @@ use Rattle.sub_key_walk.proofs.Answers.{answered-budget, answered-many,
 use borrow.Author.Needs.{needs}
 use Rattle.sub_key_walk.proofs.sub_keys.Statement.{statement}
 use Rattle.sub_key_walk.proofs.sub_keys.Tie as tie
-use Rattle.sub_key_walk.proofs.sub_keys.Reads as reads
-use Rattle.sub_key_walk.proofs.sub_keys.Lts as lts
-use Rattle.sub_key_walk.proofs.no_room.Reads as no-room-reads
-use Rattle.sub_key_walk.proofs.refuse.Reads as refuse-reads
-use Rattle.sub_key_walk.proofs.walk.Reads as walk-reads
 
--- src/lib.rt:144:9
 refuse-requires : tie.Need-refuse-requires
 refuse-requires c κs = search needs
 
--- src/lib.rt:144:9
 returns : tie.Need-returns
 returns c = answered-budget (c .refuse .ensures) (c .before .if1 .taken)
 
--- src/lib.rt:147:9
 refuse-requires-2 : tie.Need-refuse-requires-2
 refuse-requires-2 c κs = search needs
 
--- src/lib.rt:147:9
 returns-2 : tie.Need-returns-2
 returns-2 c = answered-many (c .refuse2 .ensures) (c .before .before .if1 .left) (c .before .if2 .taken)
 
--- src/lib.rt:155:9
 returns-3 : tie.Need-returns-3
 returns-3 c = answered-none (c .before .before .if1 .left) (c .before .if2 .left) (c .if3 .taken)
 
--- src/lib.rt:159:57
 slice-relend-prefix-walk : tie.Need-slice-relend-prefix-walk
 slice-relend-prefix-walk c = search needs
 
--- src/lib.rt:159:57
 slice-aggregate-walk : tie.Need-slice-aggregate-walk
 slice-aggregate-walk c = simp length-take (omega arith)
 
--- src/lib.rt:159:11
 walk-requires : tie.Need-walk-requires
 walk-requires c κs = search needs
 
--- src/lib.rt:160:29
 enum-known-fault : tie.Need-enum-known-fault
 enum-known-fault c = search needs
 
--- src/lib.rt:161:26
 enum-known-whole : tie.Need-enum-known-whole
 enum-known-whole c = search needs
 
--- src/lib.rt:163:24
 cast-if4 : tie.Need-cast-if4
 cast-if4 c = search needs
 
--- src/lib.rt:164:17
 no-room-requires : tie.Need-no-room-requires
 no-room-requires c κs = search needs
 
--- src/lib.rt:164:17
 same-length : tie.Need-same-length
 same-length c = search needs
 
--- src/lib.rt:164:17
 returns-4 : tie.Need-returns-4
 returns-4 c = answered-room (record { small = c .before .before .before .before .before .before .before .before .before .before .before .if1 .left; few = c .before .before .before .before .before .before .before .before .before .before .if2 .left; some = c .before .before .before .before .before .before .before .before .before .if3 .left }) (c .before .before .before .before .before .before .before .walk .ensures) (c .before .before .before .before .before .before .before .walk .kept .1 .1 .1 .1 .1 .1 .0) (c .before .before .before .whole .given .1) (c .before .if4 .taken) (c .no-room .ensures)
 
--- src/lib.rt:166:13
 walk-requires-2 : tie.Need-walk-requires-2
 walk-requires-2 c κs = search needs
 
--- src/lib.rt:133:1
 same-length-2 : tie.Need-same-length-2
 same-length-2 c = search needs
 
--- src/lib.rt:133:1
 returns-5 : tie.Need-returns-5
 returns-5 c = answered-refused (record { small = c .before .before .before .before .before .before .before .before .before .if1 .left; few = c .before .before .before .before .before .before .before .before .if2 .left; some = c .before .before .before .before .before .before .before .if3 .left }) (c .before .before .before .before .before .walk .ensures) (c .before .before .before .before .before .walk .kept .1 .1 .1 .1 .1 .1 .0) (c .before .fault .given .1)
 
--- src/lib.rt:133:1
 same-length-3 : tie.Need-same-length-3
 same-length-3 c = search needs
 
--- src/lib.rt:133:1
 returns-6 : tie.Need-returns-6
 returns-6 c = answered-read (record { small = c .before .before .before .before .before .before .before .before .before .before .before .before .before .before .if1 .left; few = c .before .before .before .before .before .before .before .before .before .before .before .before .before .if2 .left; some = c .before .before .before .before .before .before .before .before .before .before .before .before .if3 .left }) (c .before .before .before .before .before .before .before .before .before .before .walk .ensures) (c .before .before .before .before .before .before .before .before .before .before .walk .kept .1 .1 .1 .1 .1 .1 .0) (c .before .before .before .before .before .before .whole .given .1) (c .before .before .before .before .if4 .left) (c .before .before .walk2 .ensures)
 

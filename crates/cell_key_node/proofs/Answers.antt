@@ -1,6 +1,5 @@
 -- The promises fix the answers: two answers that say the same are the same. Assumes nothing.
 use mathlib.Core.Path.{_≡_, sym, ap}
-use Rattle.words.specs.Paper.{Told}
 use Rattle.words.proofs.Papers.{success-refused, same-success, same-told, same-refusal}
 use Rattle.cell_key_node.specs.Key.{keyPaper}
 use Rattle.cell_key_node.specs.ValueList.{placePaper, toldOfList, valueListPaper}

@@ -3,3 +3,4 @@ pub mod Fill
 pub mod ValueLists
 pub mod Answers
 pub mod Examples
+pub mod Wholes

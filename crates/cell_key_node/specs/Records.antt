@@ -1,7 +1,6 @@
 -- Document 01, "Key and value records": the checks of both. A record is read from its cell, which is what of the image stands
 -- from the record's size word on.
-use Prim.Native.Nat.{ℕ, _+_, _≤_}
-use mathlib.Core.Path.{_≡_}
+use Prim.Native.Nat.{ℕ, _+_}
 use mathlib.Core.List.{List}
 use mathlib.Core.Bool.{cond, not}
 use lib.ListN.{length, drop}

@@ -1,6 +1,5 @@
 // Value records: the record at a position, its name as a part of the image, and the lookup of a value by its name.
 ghost use mathlib.Core.Path.{_≡_};
-ghost use lib.ListN.{drop};
 ghost use Rattle.cell_key_node.specs.ValueList.{upTo, entryOf};
 ghost use Rattle.cell_key_value.specs.Value.{valueFault, valueOf, valueAt, valuePaper, valueName};
 ghost use Rattle.cell_key_value.specs.Text.{lowerOf, sameText, matchesOf};

@@ -1,5 +1,5 @@
 -- The promise fixes the answer: two answers that say the same are the same. Assumes nothing.
-use mathlib.Core.Path.{_≡_, refl, sym, ap}
+use mathlib.Core.Path.{_≡_, sym, ap}
 use Rattle.words.proofs.Papers.{success-refused, same-success, same-told, same-refusal}
 use Rattle.name_hash.specs.Hash.{hashPaper}
 use Rattle.name_hash.specs.declared.HashAnswer.{HashAnswer}

@@ -1,5 +1,5 @@
-// Key records, value records, value lists, lookups and hashes at their boundaries, a line for each: what is tried, then the
-// answer. Every place of a list's buffer stands behind `|`, and held 7 before.
+// Key records, value records, value lists, lookups and hashes at their boundaries, a line for each: what is tried, a colon, and
+// the answer. Every place of a list's buffer stands behind `|`, and held 7 before.
 use cell_key_node::KeyAnswer;
 use cell_key_node::KeyNode;
 use cell_key_node::ValueListAnswer;
@@ -43,6 +43,14 @@ fn signed(n: i32) {
     }
 }
 
+fn short(n: u16) {
+    io::print_hex(1, n as u64, 4);
+}
+
+fn byte(n: u8) {
+    io::print_hex(1, n as u64, 2);
+}
+
 fn state(allocated: bool) {
     if allocated {
         io::write_all(1, b" allocated");
@@ -59,7 +67,7 @@ fn text(what: &[u8], bytes: &[u8]) {
 }
 
 fn refused(f: Refusal) {
-    io::write_all(1, b": refused");
+    io::write_all(1, b" refused");
     word(f.number);
     place(f.position);
 }
@@ -111,14 +119,11 @@ fn put_record(
 
 // ---- key records
 
-fn key_line(label: &[u8], image: &[u8], at: usize) {
-    io::write_all(1, label);
+fn key_answer(image: &[u8], at: usize) {
     match cell_key_node::read_key_node(image, at) {
         KeyAnswer::Key(key) => {
-            io::write_all(1, b": key");
-            signed(key.size);
+            io::write_all(1, b" read");
             state(key.allocated);
-            half(key.key_name_size);
         }
         KeyAnswer::Refused(f) => {
             refused(f);
@@ -129,11 +134,29 @@ fn key_line(label: &[u8], image: &[u8], at: usize) {
     line();
 }
 
-// A record at a position of an image of so many bytes.
-fn key_case(label: &[u8], at: usize, size: u32, sign: u16, name: u16, length: usize) {
+// What is tried: a record at a position of an image of so many bytes, its size word, its signature, the length of its name.
+fn tried(what: &[u8], at: usize, length: usize, size: &[u8], sign: u16, name: u16) {
+    io::write_all(1, what);
+    place(at);
+    io::write_all(1, b" of");
+    place(length);
+    io::write_all(1, b", size");
+    signed(words::i32_at(size, 0));
+    io::write_all(1, b", ");
+    let letters = [(sign % 256) as u8, (sign / 256) as u8];
+    io::write_all(1, &letters);
+    io::write_all(1, b", name");
+    half(name);
+    io::write_all(1, b":");
+}
+
+fn key_case(at: usize, size: u32, sign: u16, name: u16, length: usize) {
+    let mut first = [0u8; 4];
+    put_32(&mut first, 0, size);
+    tried(b"key at", at, length, &first, sign, name);
     let mut image = [0u8; 104];
     put_record(&mut image, at, size, sign, 76, name, 80);
-    key_line(label, words::part(&image, 0, length), at);
+    key_answer(words::part(&image, 0, length), at);
 }
 
 fn key_line_of_numbers(key: KeyNode) {
@@ -178,14 +201,11 @@ fn key_numbers() {
 
 // ---- value records
 
-fn value_line(label: &[u8], image: &[u8], at: usize) {
-    io::write_all(1, label);
+fn value_answer(image: &[u8], at: usize) {
     match cell_key_value::read_key_value(image, at) {
         ValueAnswer::Value(value) => {
-            io::write_all(1, b": value");
-            signed(value.size);
+            io::write_all(1, b" read");
             state(value.allocated);
-            half(value.value_name_size);
         }
         ValueAnswer::Refused(f) => {
             refused(f);
@@ -195,10 +215,13 @@ fn value_line(label: &[u8], image: &[u8], at: usize) {
     line();
 }
 
-fn value_case(label: &[u8], at: usize, size: u32, sign: u16, name: u16, length: usize) {
+fn value_case(at: usize, size: u32, sign: u16, name: u16, length: usize) {
+    let mut first = [0u8; 4];
+    put_32(&mut first, 0, size);
+    tried(b"value at", at, length, &first, sign, name);
     let mut image = [0u8; 48];
     put_record(&mut image, at, size, sign, 6, name, 24);
-    value_line(label, words::part(&image, 0, length), at);
+    value_answer(words::part(&image, 0, length), at);
 }
 
 fn value_numbers() {
@@ -238,15 +261,14 @@ fn places(out: &[u32]) {
     line();
 }
 
-fn list_answer(label: &[u8], answer: ValueListAnswer) {
-    io::write_all(1, label);
+fn list_answer(answer: ValueListAnswer) {
     match answer {
         ValueListAnswer::Listed(n) => {
-            io::write_all(1, b": listed");
+            io::write_all(1, b" listed");
             word(n);
         }
         ValueListAnswer::Refused(f) => {
-            io::write_all(1, b": refused");
+            io::write_all(1, b" refused");
             word(f.number);
             place(f.position);
             word(f.places);
@@ -254,31 +276,48 @@ fn list_answer(label: &[u8], answer: ValueListAnswer) {
     }
 }
 
-fn list_line(label: &[u8], image: &[u8], base: u32, count: u32, offset: i32, out: &mut [u32]) {
+// The numbers of a key record: base, count and offset.
+fn numbers(base: u32, count: u32, offset: i32) {
+    io::write_all(1, b", base");
+    word(base);
+    io::write_all(1, b", count");
+    word(count);
+    io::write_all(1, b", offset");
+    signed(offset);
+}
+
+// In the first bytes of an image that has a list of two entries at 4: 16 and 2147483680.
+fn list_line(length: usize, base: u32, count: u32, offset: i32, out: &mut [u32]) {
+    io::write_all(1, b"values in");
+    place(length);
+    numbers(base, count, offset);
+    io::write_all(1, b":");
+    let whole = b"head\xf0\xff\xff\xff\x10\x00\x00\x00\x20\x00\x00\x80";
+    let image = words::part(whole, 0, length);
     let answer = cell_key_node::value_list(image, base, count, offset, out);
-    list_answer(label, answer);
+    list_answer(answer);
     places(out);
 }
 
 // Into a buffer of three places, of two, of one and of none.
-fn three(label: &[u8], image: &[u8], base: u32, count: u32, offset: i32) {
+fn three(length: usize, base: u32, count: u32, offset: i32) {
     let mut out = [7u32; 3];
-    list_line(label, image, base, count, offset, &mut out);
+    list_line(length, base, count, offset, &mut out);
 }
 
-fn two(label: &[u8], image: &[u8], base: u32, count: u32, offset: i32) {
+fn two(length: usize, base: u32, count: u32, offset: i32) {
     let mut out = [7u32; 2];
-    list_line(label, image, base, count, offset, &mut out);
+    list_line(length, base, count, offset, &mut out);
 }
 
-fn one(label: &[u8], image: &[u8], base: u32, count: u32, offset: i32) {
+fn one(length: usize, base: u32, count: u32, offset: i32) {
     let mut out = [7u32; 1];
-    list_line(label, image, base, count, offset, &mut out);
+    list_line(length, base, count, offset, &mut out);
 }
 
-fn none(label: &[u8], image: &[u8], base: u32, count: u32, offset: i32) {
+fn none(length: usize, base: u32, count: u32, offset: i32) {
     let mut out = [7u32; 0];
-    list_line(label, image, base, count, offset, &mut out);
+    list_line(length, base, count, offset, &mut out);
 }
 
 // ---- lookups
@@ -309,11 +348,11 @@ fn values_image() -> [u8; 128] {
     image
 }
 
-fn found_line(label: &[u8], answer: LookupAnswer) {
-    io::write_all(1, label);
+fn found_line(answer: LookupAnswer) {
+    io::write_all(1, b":");
     match answer {
         LookupAnswer::Found(found) => {
-            io::write_all(1, b": found");
+            io::write_all(1, b" found");
             place(found.position);
             found_value(found.value);
         }
@@ -331,20 +370,49 @@ fn found_value(value: KeyValue) {
     half(value.flags_raw);
 }
 
-// A lookup in the image of three values, with one byte of it changed.
-fn look(label: &[u8], at: usize, byte: u8, name: &[u8]) {
-    let mut image = values_image();
-    put(&mut image, at, byte);
-    found_line(label, cell_key_value::find_value(&image, 4, 3, 8, name));
+fn changed(at: usize, n: u8) {
+    io::write_all(1, b"lookup, byte");
+    place(at);
+    io::write_all(1, b" as");
+    number(n as u64);
+    io::write_all(1, b",");
 }
 
-// A lookup in the same image, by other numbers of the key record.
-fn find(label: &[u8], base: u32, count: u32, offset: i32, name: &[u8]) {
+fn look_changed(at: usize, n: u8, name: &[u8]) {
+    let mut image = values_image();
+    put(&mut image, at, n);
+    found_line(cell_key_value::find_value(&image, 4, 3, 8, name));
+}
+
+// A lookup in the image of three values, with one byte of it changed.
+fn look(at: usize, n: u8, name: &[u8]) {
+    changed(at, n);
+    text(b"", name);
+    look_changed(at, n, name);
+}
+
+fn look_none(at: usize, n: u8) {
+    look(at, n, b"");
+}
+
+// The same for a name of two bytes, told in hex.
+fn look_odd(at: usize, n: u8, first: u8, second: u8) {
+    let name = [first, second];
+    changed(at, n);
+    io::write_all(1, b" ");
+    byte(first);
+    io::write_all(1, b" ");
+    byte(second);
+    look_changed(at, n, &name);
+}
+
+// A lookup of `x` in the same image, by other numbers of the key record.
+fn find(base: u32, count: u32, offset: i32) {
     let image = values_image();
-    found_line(
-        label,
-        cell_key_value::find_value(&image, base, count, offset, name),
-    );
+    io::write_all(1, b"lookup");
+    numbers(base, count, offset);
+    text(b",", b"x");
+    found_line(cell_key_value::find_value(&image, base, count, offset, b"x"));
 }
 
 // ---- from a key record, which has 2 subkeys in the list at 0 and 3 values in the list at 8
@@ -363,21 +431,21 @@ fn values_line(key: KeyNode) {
     let image = values_image();
     let mut out = [7u32; 3];
     let answer = cell_key_node::value_list_of(&image, 4, key, &mut out);
-    list_answer(b"values of a record", answer);
+    io::write_all(1, b"values of a record:");
+    list_answer(answer);
     places(&out);
 }
 
-fn walk_answer(label: &[u8], answer: WalkAnswer) {
-    io::write_all(1, label);
+fn walk_answer(answer: WalkAnswer) {
     match answer {
         WalkAnswer::Read(counts) => {
-            io::write_all(1, b": read");
+            io::write_all(1, b" read");
             word(counts.kept);
             word(counts.lists);
             word(counts.entries);
         }
         WalkAnswer::Refused(f) => {
-            io::write_all(1, b": refused");
+            io::write_all(1, b" refused");
             word(f.number);
             place(f.position);
         }
@@ -388,14 +456,16 @@ fn sub_keys_line(key: KeyNode) {
     let image = b"\x00\x00\x00\x00li\x02\x00\x10\x00\x00\x00\x20\x00\x00\x00";
     let mut out = [7u32; 3];
     let answer = cell_key_node::sub_keys_of(image, 0, key, 1024, &mut out);
-    walk_answer(b"subkeys of a record", answer);
+    io::write_all(1, b"subkeys of a record:");
+    walk_answer(answer);
     places(&out);
 }
 
 fn value_of_record_line(key: KeyNode) {
     let image = values_image();
     let answer = cell_key_value::find_value_of(&image, 4, key, b"SPEED");
-    found_line(b"SPEED in a record", answer);
+    io::write_all(1, b"SPEED in a record");
+    found_line(answer);
 }
 
 fn record_lines() {
@@ -414,11 +484,11 @@ fn record_lines() {
 
 // ---- hashes
 
-fn hash_case(label: &[u8], flags: u16, name: &[u8]) {
-    io::write_all(1, label);
+fn hash_answer(flags: u16, name: &[u8]) {
+    io::write_all(1, b":");
     match name_hash::name_hash(flags, name) {
         HashAnswer::Hash(hash) => {
-            io::write_all(1, b": hash");
+            io::write_all(1, b" hash");
             word(hash);
         }
         HashAnswer::Refused(f) => {
@@ -428,115 +498,114 @@ fn hash_case(label: &[u8], flags: u16, name: &[u8]) {
     line();
 }
 
+fn hash_tried(flags: u16) {
+    io::write_all(1, b"hash, flags ");
+    short(flags);
+    io::write_all(1, b",");
+}
+
+fn byte_of(name: &[u8], i: usize) {
+    if i < name.len() {
+        io::write_all(1, b" ");
+        byte(name[i]);
+    }
+}
+
+fn hash_of_bytes(flags: u16, name: &[u8]) {
+    hash_tried(flags);
+    byte_of(name, 0);
+    byte_of(name, 1);
+    byte_of(name, 2);
+    byte_of(name, 3);
+    hash_answer(flags, name);
+}
+
+// The first bytes of a word, the lowest first, as a name.
+fn hash_case(flags: u16, length: usize, bytes: u32) {
+    let mut name = [0u8; 4];
+    put_32(&mut name, 0, bytes);
+    hash_of_bytes(flags, words::part(&name, 0, length));
+}
+
+fn hash_name(flags: u16, name: &[u8]) {
+    hash_tried(flags);
+    text(b"", name);
+    hash_answer(flags, name);
+}
+
 // ---- the cases
 
 // Where a key record may stand: 2, then 1.
 fn key_positions() {
-    key_case(b"key past the image by 1", 88, 0xffffffb0, NK, 0, 87);
-    key_case(b"key at the image's end", 87, 0xffffffb0, NK, 0, 87);
-    key_case(b"key with 79 bytes left", 7, 0xffffffb0, NK, 0, 86);
-    key_case(b"key with 80 bytes left", 7, 0xffffffb0, NK, 0, 87);
-    key_case(b"key at 0", 0, 0xffffffb0, NK, 0, 80);
-    key_case(b"key at 0 of an empty image", 0, 0xffffffb0, NK, 0, 0);
-    key_case(b"key at 1 of an empty image", 1, 0xffffffb0, NK, 0, 0);
-    key_case(
-        b"key at the greatest position",
-        18446744073709551615,
-        0xffffffb0,
-        NK,
-        0,
-        87,
-    );
-    key_case(
-        b"key with 79 bytes left, size 0, no sign",
-        7,
-        0x0,
-        VK,
-        9,
-        86,
-    );
+    key_case(88, 0xffffffb0, NK, 0, 87);
+    key_case(87, 0xffffffb0, NK, 0, 87);
+    key_case(7, 0xffffffb0, NK, 0, 86);
+    key_case(7, 0xffffffb0, NK, 0, 87);
+    key_case(0, 0xffffffb0, NK, 0, 80);
+    key_case(0, 0xffffffb0, NK, 0, 0);
+    key_case(1, 0xffffffb0, NK, 0, 0);
+    key_case(18446744073709551615, 0xffffffb0, NK, 0, 87);
+    key_case(7, 0x0, VK, 9, 86);
 }
 
 // Its size word: 3, below 80 or above what is left, of either sign.
 fn key_sizes() {
-    key_case(b"key of size -79", 7, 0xffffffb1, NK, 0, 95);
-    key_case(b"key of size -80", 7, 0xffffffb0, NK, 0, 95);
-    key_case(b"key of size -81", 7, 0xffffffaf, NK, 0, 95);
-    key_case(b"key of size 79", 7, 0x4f, NK, 0, 95);
-    key_case(b"key of size 80", 7, 0x50, NK, 0, 95);
-    key_case(b"key of size 81", 7, 0x51, NK, 0, 95);
-    key_case(b"key of size 0", 7, 0x0, NK, 0, 95);
-    key_case(b"key of size -88 with 88 left", 7, 0xffffffa8, NK, 0, 95);
-    key_case(b"key of size -89 with 88 left", 7, 0xffffffa7, NK, 0, 95);
-    key_case(b"key of size 88 with 88 left", 7, 0x58, NK, 0, 95);
-    key_case(b"key of size 89 with 88 left", 7, 0x59, NK, 0, 95);
-    key_case(b"key of size -2147483648", 7, 0x80000000, NK, 0, 95);
-    key_case(b"key of size -2147483647", 7, 0x80000001, NK, 0, 95);
-    key_case(b"key of size 2147483647", 7, 0x7fffffff, NK, 0, 95);
-    key_case(b"key of size 79, no sign", 7, 0x4f, VK, 9, 95);
+    key_case(7, 0xffffffb1, NK, 0, 95);
+    key_case(7, 0xffffffb0, NK, 0, 95);
+    key_case(7, 0xffffffaf, NK, 0, 95);
+    key_case(7, 0x4f, NK, 0, 95);
+    key_case(7, 0x50, NK, 0, 95);
+    key_case(7, 0x51, NK, 0, 95);
+    key_case(7, 0x0, NK, 0, 95);
+    key_case(7, 0xffffffa8, NK, 0, 95);
+    key_case(7, 0xffffffa7, NK, 0, 95);
+    key_case(7, 0x58, NK, 0, 95);
+    key_case(7, 0x59, NK, 0, 95);
+    key_case(7, 0x80000000, NK, 0, 95);
+    key_case(7, 0x80000001, NK, 0, 95);
+    key_case(7, 0x7fffffff, NK, 0, 95);
+    key_case(7, 0x4f, VK, 9, 95);
 }
 
 // Its signature: 4. The end of its name: 5.
 fn key_signs_and_names() {
-    key_case(b"key with vk", 7, 0xffffffa8, VK, 0, 95);
-    key_case(b"key with kn", 7, 0xffffffa8, 0x6E6B, 0, 95);
-    key_case(b"key with Nk", 7, 0xffffffa8, 0x6B4E, 0, 95);
-    key_case(b"key with vk, long name", 7, 0xffffffb0, VK, 1, 95);
-    key_case(b"key of size -80, name of 0", 7, 0xffffffb0, NK, 0, 95);
-    key_case(b"key of size -80, name of 1", 7, 0xffffffb0, NK, 1, 95);
-    key_case(b"key of size -81, name of 1", 7, 0xffffffaf, NK, 1, 95);
-    key_case(b"key of size -81, name of 2", 7, 0xffffffaf, NK, 2, 95);
-    key_case(b"key of size 81, name of 1", 7, 0x51, NK, 1, 95);
-    key_case(b"key of size -88, name of 4", 7, 0xffffffa8, NK, 4, 95);
-    key_case(b"key of size -88, name of 7", 7, 0xffffffa8, NK, 7, 95);
-    key_case(b"key of size -88, name of 8", 7, 0xffffffa8, NK, 8, 95);
-    key_case(b"key of size -88, name of 9", 7, 0xffffffa8, NK, 9, 95);
-    key_case(
-        b"key of size -84, name of 4, bytes after the cell",
-        7,
-        0xffffffac,
-        NK,
-        4,
-        95,
-    );
-    key_case(
-        b"key of size -88, name of 65535",
-        7,
-        0xffffffa8,
-        NK,
-        65535,
-        95,
-    );
+    key_case(7, 0xffffffa8, VK, 0, 95);
+    key_case(7, 0xffffffa8, 0x6E6B, 0, 95);
+    key_case(7, 0xffffffa8, 0x6B4E, 0, 95);
+    key_case(7, 0xffffffb0, VK, 1, 95);
+    key_case(7, 0xffffffb0, NK, 1, 95);
+    key_case(7, 0xffffffaf, NK, 1, 95);
+    key_case(7, 0xffffffaf, NK, 2, 95);
+    key_case(7, 0x51, NK, 1, 95);
+    key_case(7, 0xffffffa8, NK, 4, 95);
+    key_case(7, 0xffffffa8, NK, 7, 95);
+    key_case(7, 0xffffffa8, NK, 8, 95);
+    key_case(7, 0xffffffa8, NK, 9, 95);
+    key_case(7, 0xffffffac, NK, 4, 95);
+    key_case(7, 0xffffffa8, NK, 65535, 95);
 }
 
 // Value records: the same checks, of 24 bytes and "vk".
 fn value_records() {
-    value_case(b"value past the image by 1", 32, 0xffffffe8, VK, 0, 31);
-    value_case(b"value at the image's end", 31, 0xffffffe8, VK, 0, 31);
-    value_case(b"value with 23 bytes left", 7, 0xffffffe8, VK, 0, 30);
-    value_case(b"value with 24 bytes left", 7, 0xffffffe8, VK, 0, 31);
-    value_case(b"value of size -23", 7, 0xffffffe9, VK, 0, 39);
-    value_case(b"value of size 23", 7, 0x17, VK, 0, 39);
-    value_case(b"value of size 24", 7, 0x18, VK, 0, 39);
-    value_case(b"value of size -32 with 32 left", 7, 0xffffffe0, VK, 0, 39);
-    value_case(b"value of size -33 with 32 left", 7, 0xffffffdf, VK, 0, 39);
-    value_case(b"value of size 33 with 32 left", 7, 0x21, VK, 0, 39);
-    value_case(b"value of size -2147483648", 7, 0x80000000, VK, 0, 39);
-    value_case(b"value with nk", 7, 0xffffffe0, NK, 0, 39);
-    value_case(b"value with nk, long name", 7, 0xffffffe0, NK, 9, 39);
-    value_case(b"value of size -24, name of 1", 7, 0xffffffe8, VK, 1, 39);
-    value_case(b"value of size -25, name of 1", 7, 0xffffffe7, VK, 1, 39);
-    value_case(b"value of size -25, name of 2", 7, 0xffffffe7, VK, 2, 39);
-    value_case(b"value of size 32, name of 8", 7, 0x20, VK, 8, 39);
-    value_case(b"value of size -32, name of 9", 7, 0xffffffe0, VK, 9, 39);
-    value_case(
-        b"value of size -23, nk, long name",
-        7,
-        0xffffffe9,
-        NK,
-        9,
-        39,
-    );
+    value_case(32, 0xffffffe8, VK, 0, 31);
+    value_case(31, 0xffffffe8, VK, 0, 31);
+    value_case(7, 0xffffffe8, VK, 0, 30);
+    value_case(7, 0xffffffe8, VK, 0, 31);
+    value_case(7, 0xffffffe9, VK, 0, 39);
+    value_case(7, 0x17, VK, 0, 39);
+    value_case(7, 0x18, VK, 0, 39);
+    value_case(7, 0xffffffe0, VK, 0, 39);
+    value_case(7, 0xffffffdf, VK, 0, 39);
+    value_case(7, 0x21, VK, 0, 39);
+    value_case(7, 0x80000000, VK, 0, 39);
+    value_case(7, 0xffffffe0, NK, 0, 39);
+    value_case(7, 0xffffffe0, NK, 9, 39);
+    value_case(7, 0xffffffe8, VK, 1, 39);
+    value_case(7, 0xffffffe7, VK, 1, 39);
+    value_case(7, 0xffffffe7, VK, 2, 39);
+    value_case(7, 0x20, VK, 8, 39);
+    value_case(7, 0xffffffe0, VK, 9, 39);
+    value_case(7, 0xffffffe9, NK, 9, 39);
 }
 
 // Every number of a record, each its own.
@@ -547,113 +616,48 @@ fn every_number() {
 
 // Value lists: count 0, then 6.
 fn list_offsets() {
-    let list = b"head\xf0\xff\xff\xff\x10\x00\x00\x00\x20\x00\x00\x80";
-    three(b"values: count 0, offset 0", list, 0, 0, 0);
-    three(
-        b"values: count 0, offset -1, base 4294967295",
-        b"",
-        4294967295,
-        0,
-        -1,
-    );
-    three(b"values: count 1, offset 0", list, 0, 1, 0);
-    three(b"values: count 1, offset 1", list, 0, 1, 1);
-    three(b"values: count 1, offset -1", list, 5, 1, -1);
-    three(
-        b"values: count 1, offset -2147483648",
-        list,
-        0,
-        1,
-        -2147483648,
-    );
-    three(
-        b"values: count 1, offset 2147483647",
-        list,
-        0,
-        1,
-        2147483647,
-    );
-    three(
-        b"values: image of 8, base 4096, offset 8",
-        b"12345678",
-        4096,
-        1,
-        8,
-    );
-    three(
-        b"values: image of 8, base 4096, offset 7",
-        b"12345678",
-        4096,
-        1,
-        7,
-    );
-    three(
-        b"values: image of 8, base 0, offset 8",
-        b"12345678",
-        0,
-        1,
-        8,
-    );
-    three(
-        b"values: image of 8, base 0, offset 7",
-        b"12345678",
-        0,
-        1,
-        7,
-    );
-    three(b"values: empty image, offset 1", b"", 0, 1, 1);
+    three(16, 0, 0, 0);
+    three(0, 4294967295, 0, -1);
+    three(16, 0, 1, 0);
+    three(16, 0, 1, 1);
+    three(16, 5, 1, -1);
+    three(16, 0, 1, -2147483648);
+    three(16, 0, 1, 2147483647);
+    three(8, 4096, 1, 8);
+    three(8, 4096, 1, 7);
+    three(8, 0, 1, 8);
+    three(8, 0, 1, 7);
+    three(0, 0, 1, 1);
 }
 
 // 7, then 2, then 8.
 fn list_counts_and_places() {
-    let list = b"head\xf0\xff\xff\xff\x10\x00\x00\x00\x20\x00\x00\x80";
-    let cut = b"head\xf0\xff\xff\xff\x10\x00\x00\x00\x20\x00\x00";
-    three(b"values: count 1048577, offset 0", list, 0, 1048577, 0);
-    three(b"values: count 1048577, offset 4", list, 0, 1048577, 4);
-    three(
-        b"values: count 1048577, offset 4, base 4096",
-        list,
-        4096,
-        1048577,
-        4,
-    );
-    three(
-        b"values: count 4294967295, offset 4",
-        list,
-        0,
-        4294967295,
-        4,
-    );
-    three(b"values: count 1048576, offset 4", list, 0, 1048576, 4);
-    three(
-        b"values: count 1048576, offset 4, base 4096",
-        list,
-        4096,
-        1048576,
-        4,
-    );
-    three(b"values: offset 15, base 2", list, 2, 1, 15);
-    three(b"values: offset 15, base 1", list, 1, 1, 15);
-    three(b"values: offset 4, base 4294967295", list, 4294967295, 2, 4);
-    three(b"values: 1 entry", list, 0, 1, 4);
-    three(b"values: 2 entries in 16 bytes", list, 0, 2, 4);
-    three(b"values: 2 entries in 15 bytes", cut, 0, 2, 4);
-    three(b"values: 3 entries in 16 bytes", list, 0, 3, 4);
-    three(b"values: 2 entries, offset 1, base 3", list, 3, 2, 1);
+    three(16, 0, 1048577, 0);
+    three(16, 0, 1048577, 4);
+    three(16, 4096, 1048577, 4);
+    three(16, 0, 4294967295, 4);
+    three(16, 0, 1048576, 4);
+    three(16, 4096, 1048576, 4);
+    three(16, 2, 1, 15);
+    three(16, 1, 1, 15);
+    three(16, 4294967295, 2, 4);
+    three(16, 0, 1, 4);
+    three(16, 0, 2, 4);
+    three(15, 0, 2, 4);
+    three(16, 0, 3, 4);
+    three(16, 3, 2, 1);
 }
 
 // Last 9, with the places needed.
 fn list_rooms() {
-    let list = b"head\xf0\xff\xff\xff\x10\x00\x00\x00\x20\x00\x00\x80";
-    let cut = b"head\xf0\xff\xff\xff\x10\x00\x00\x00\x20\x00\x00";
-    two(b"values: 2 entries, 2 places", list, 0, 2, 4);
-    one(b"values: 2 entries, 1 place", list, 0, 2, 4);
-    none(b"values: 2 entries, no place", list, 0, 2, 4);
-    one(b"values: 1 entry, 1 place", list, 0, 1, 4);
-    none(b"values: 1 entry, no place", list, 0, 1, 4);
-    none(b"values: count 0, no place", list, 0, 0, 4);
-    one(b"values: 2 entries in 15 bytes, 1 place", cut, 0, 2, 4);
-    none(b"values: count 1, offset 0, no place", list, 0, 1, 0);
+    two(16, 0, 2, 4);
+    one(16, 0, 2, 4);
+    none(16, 0, 2, 4);
+    one(16, 0, 1, 4);
+    none(16, 0, 1, 4);
+    none(16, 0, 0, 4);
+    one(15, 0, 2, 4);
+    none(16, 0, 1, 0);
 }
 
 // The same from a key record, by value.
@@ -661,133 +665,114 @@ fn from_a_record() {
     record_lines();
 }
 
-// Lookups in a list of three: `Speed` at 32, no name at 64, the letters C0 and x at 96.
+// Lookups in a list of three: `Speed` at 32, no name at 64, the letters C0 and x at 96. Byte 0 is none of theirs.
 fn lookup_names() {
-    look(b"Speed", 0, 0, b"Speed");
-    look(b"SPEED", 0, 0, b"SPEED");
-    look(b"sPeEd", 0, 0, b"sPeEd");
-    look(b"Spee", 0, 0, b"Spee");
-    look(b"Speeds", 0, 0, b"Speeds");
-    look(b"no name", 0, 0, b"");
-    look(b"C0 x", 0, 0, b"\xc0x");
-    look(b"C0 X", 0, 0, b"\xc0X");
-    look(b"E0 x", 0, 0, b"\xe0x");
-    look(b"C0", 0, 0, b"\xc0");
-    look(b"a first A, looked for as a", 56, b'A', b"apeed");
-    look(b"a first Z, looked for as z", 56, b'Z', b"zpeed");
-    look(b"a first z, looked for as Z", 56, b'z', b"Zpeed");
-    look(b"a first @, looked for as `", 56, b'@', b"`peed");
-    look(b"a first [, looked for as {", 56, b'[', b"{peed");
-    look(b"a first {, looked for as [", 56, b'{', b"[peed");
+    look(0, 0, b"Speed");
+    look(0, 0, b"SPEED");
+    look(0, 0, b"sPeEd");
+    look(0, 0, b"Spee");
+    look(0, 0, b"Speeds");
+    look_none(0, 0);
+    look_odd(0, 0, 0xc0, b'x');
+    look_odd(0, 0, 0xc0, b'X');
+    look_odd(0, 0, 0xe0, b'x');
+    look_odd(0, 0, 0xc0, 0);
+    look(56, b'A', b"apeed");
+    look(56, b'Z', b"zpeed");
+    look(56, b'z', b"Zpeed");
+    look(56, b'@', b"`peed");
+    look(56, b'[', b"{peed");
+    look(56, b'{', b"[peed");
 }
 
-// Flag 0001 of a record.
+// Flag 0001: of the first record at 52, of the second at 84. The third name has its length at 102.
 fn lookup_flags() {
-    look(b"Speed, flags 0", 52, 0, b"Speed");
-    look(b"Speed, flags 2", 52, 2, b"Speed");
-    look(b"Speed, flags 3", 52, 3, b"Speed");
-    look(b"no name, flags 0 before it", 52, 0, b"");
-    look(b"no name, flags 1", 84, 1, b"");
-    look(b"no name, two without a name", 102, 0, b"");
+    look(52, 0, b"Speed");
+    look(52, 2, b"Speed");
+    look(52, 3, b"Speed");
+    look_none(52, 0);
+    look_none(84, 1);
+    look_none(102, 0);
 }
 
-// Records that cannot be read, before the match and after it.
+// Records that cannot be read, before the match and after it: signatures, sizes, names and entries.
 fn lookup_damaged() {
-    look(b"Speed, the first damaged", 36, b'x', b"Speed");
-    look(b"no name, the first damaged", 36, b'x', b"");
-    look(b"Speed, the second damaged", 68, b'x', b"Speed");
-    look(b"no name, the second damaged", 68, b'x', b"");
-    look(b"C0 x, the second damaged", 68, b'x', b"\xc0x");
-    look(b"Speed, the third damaged", 100, b'x', b"Speed");
-    look(b"no name, the third damaged", 100, b'x', b"");
-    look(b"Speeds, the third damaged", 100, b'x', b"Speeds");
-    look(b"C0 x, the second of size 23", 64, 23, b"\xc0x");
-    look(b"C0 x, the second of size 24", 64, 24, b"\xc0x");
-    look(b"C0 x, the third past the image", 96, 0xdf, b"\xc0x");
-    look(b"C0 x, the second's name to its end", 70, 8, b"\xc0x");
-    look(b"C0 x, the second's name past its end", 70, 9, b"\xc0x");
-    look(b"C0 x, the third entry at the end", 24, 124, b"\xc0x");
-    look(b"C0 x, the third entry past the end", 24, 125, b"\xc0x");
-    look(b"no name, the second entry far outside", 23, 255, b"");
+    look(36, b'x', b"Speed");
+    look_none(36, b'x');
+    look(68, b'x', b"Speed");
+    look_none(68, b'x');
+    look_odd(68, b'x', 0xc0, b'x');
+    look(100, b'x', b"Speed");
+    look_none(100, b'x');
+    look(100, b'x', b"Speeds");
+    look_odd(64, 23, 0xc0, b'x');
+    look_odd(64, 24, 0xc0, b'x');
+    look_odd(96, 0xdf, 0xc0, b'x');
+    look_odd(70, 8, 0xc0, b'x');
+    look_odd(70, 9, 0xc0, b'x');
+    look_odd(24, 124, 0xc0, b'x');
+    look_odd(24, 125, 0xc0, b'x');
+    look_none(23, 255);
 }
 
-// The list's own refusals come first.
+// The list's own refusals come first. No record is named `x`, and the entries after the third lead to none.
 fn lookup_lists() {
-    find(b"lookup: count 0", 4, 0, 8, b"Speed");
-    find(
-        b"lookup: count 0, offset -1, base 4294967295",
-        4294967295,
-        0,
-        -1,
-        b"",
-    );
-    find(b"lookup: count 1, offset 0", 4, 1, 0, b"Speed");
-    find(b"lookup: count 1, offset -1", 4, 1, -1, b"Speed");
-    find(b"lookup: count 1, offset 128", 4, 1, 128, b"Speed");
-    find(b"lookup: count 1048577", 4, 1048577, 8, b"Speed");
-    find(b"lookup: count 1048576", 4, 1048576, 8, b"Speed");
-    find(b"lookup: base 4096", 4096, 1, 8, b"Speed");
-    find(b"lookup: count 28", 4, 28, 8, b"Speed");
-    find(b"lookup: count 29", 4, 29, 8, b"Speed");
-    find(b"lookup: count 2, C0 x", 4, 2, 8, b"\xc0x");
-    find(b"lookup: count 1, no name", 4, 1, 8, b"");
+    find(4, 0, 8);
+    find(4294967295, 0, -1);
+    find(4, 1, 0);
+    find(4, 1, -1);
+    find(4, 1, 128);
+    find(4, 1, 127);
+    find(4, 1048577, 8);
+    find(4, 1048576, 8);
+    find(4096, 1, 8);
+    find(4, 1, 8);
+    find(4, 3, 8);
+    find(4, 28, 8);
+    find(4, 29, 8);
 }
 
 // Hashes of bytes, where flag 0020 is set.
 fn hashes_of_bytes() {
-    hash_case(b"hash of no bytes", 0x20, b"");
-    hash_case(b"hash of A", 0x20, b"A");
-    hash_case(b"hash of a", 0x20, b"a");
-    hash_case(b"hash of ab", 0x20, b"ab");
-    hash_case(b"hash of AB", 0x20, b"AB");
-    hash_case(b"hash of `", 0x20, b"`");
-    hash_case(b"hash of z", 0x20, b"z");
-    hash_case(b"hash of {", 0x20, b"{");
-    hash_case(b"hash of DF", 0x20, b"\xdf");
-    hash_case(b"hash of E0", 0x20, b"\xe0");
-    hash_case(b"hash of F6", 0x20, b"\xf6");
-    hash_case(b"hash of F7", 0x20, b"\xf7");
-    hash_case(b"hash of F8", 0x20, b"\xf8");
-    hash_case(b"hash of FE", 0x20, b"\xfe");
-    hash_case(b"hash of FF", 0x20, b"\xff");
-    hash_case(b"hash of FF, every flag", 0xffff, b"\xff");
-    hash_case(b"hash of Terminal0000", 0x20, b"Terminal0000");
-    hash_case(b"hash of zzzzzzz", 0x20, b"zzzzzzz");
-    hash_case(
-        b"hash of 8 times FF",
-        0x20,
-        b"\xff\xff\xff\xff\xff\xff\xff\xff",
-    );
+    hash_case(0x20, 0, 0x0);
+    hash_case(0x20, 1, 0x41);
+    hash_case(0x20, 1, 0x61);
+    hash_case(0x20, 2, 0x6261);
+    hash_case(0x20, 2, 0x4241);
+    hash_case(0x20, 1, 0x60);
+    hash_case(0x20, 1, 0x7a);
+    hash_case(0x20, 1, 0x7b);
+    hash_case(0x20, 1, 0xdf);
+    hash_case(0x20, 1, 0xe0);
+    hash_case(0x20, 1, 0xf6);
+    hash_case(0x20, 1, 0xf7);
+    hash_case(0x20, 1, 0xf8);
+    hash_case(0x20, 1, 0xfe);
+    hash_case(0x20, 1, 0xff);
+    hash_case(0xffff, 1, 0xff);
+    hash_case(0x20, 3, 0x7a7a7a);
+    hash_name(0x20, b"Terminal0000");
+    hash_name(0x20, b"zzzzzzz");
 }
 
 // Hashes of units of 16 bits, where it is clear.
 fn hashes_of_units() {
-    hash_case(b"hash of no units", 0x0, b"");
-    hash_case(b"hash of the unit A", 0x0, b"A\x00");
-    hash_case(b"hash of the units ab", 0x0, b"a\x00b\x00");
-    hash_case(
-        b"hash of the units ab, every other flag",
-        0xffdf,
-        b"a\x00b\x00",
-    );
-    hash_case(b"hash of 1 byte as units", 0x0, b"A");
-    hash_case(b"hash of 3 bytes as units", 0x0, b"A\x00b");
-    hash_case(
-        b"hash of 3 bytes as units, every other flag",
-        0xffdf,
-        b"A\x00b",
-    );
-    hash_case(b"hash of the unit 00FF", 0x0, b"\xff\x00");
-    hash_case(b"hash of the unit 0100", 0x0, b"\x00\x01");
-    hash_case(b"hash of the unit 0161", 0x0, b"\x61\x01");
-    hash_case(b"hash of the unit 0430", 0x0, b"\x30\x04");
-    hash_case(b"hash of the unit FFFF", 0x0, b"\xff\xff");
-    hash_case(
-        b"hash of 6 units FFFF",
-        0x0,
-        b"\xff\xff\xff\xff\xff\xff\xff\xff\xff\xff\xff\xff",
-    );
-    hash_case(b"hash of the units a, 0430", 0x0, b"a\x00\x30\x04");
+    hash_case(0x0, 0, 0x0);
+    hash_case(0x0, 2, 0x41);
+    hash_case(0x0, 4, 0x620061);
+    hash_case(0xffdf, 4, 0x620061);
+    hash_case(0x0, 1, 0x41);
+    hash_case(0x0, 3, 0x620041);
+    hash_case(0xffdf, 3, 0x620041);
+    hash_case(0x10, 1, 0x41);
+    hash_case(0x40, 1, 0x41);
+    hash_case(0x0, 2, 0xff);
+    hash_case(0x0, 2, 0x100);
+    hash_case(0x0, 2, 0x161);
+    hash_case(0x0, 2, 0x430);
+    hash_case(0x0, 2, 0xffff);
+    hash_case(0x0, 4, 0x4300061);
+    hash_name(0x0, b"zzzzzzzz");
 }
 
 fn main() {

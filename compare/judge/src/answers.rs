@@ -12,7 +12,7 @@ use std::fmt::Write as _;
 use std::panic::{catch_unwind, AssertUnwindSafe};
 
 #[derive(Clone, Copy, PartialEq)]
-pub enum Form { Converted, Undone, Unguarded }
+pub enum Form { Converted, Undone, Unguarded, Callers }
 
 // ---- how values are written
 
@@ -213,7 +213,17 @@ fn key(c: &Case, file: &mut FileInfo, form: Form) -> String {
         (Some(s), Some(n)) => s < 0 && s % 8 == 0 && s.unsigned_abs() >= 80 + n as u32 && s.unsigned_abs() as usize <= image.len() - at,
         _ => false,
     };
-    if !inside { format!("- size {told}") } else if form == Form::Undone && !kept { "- lossy".into() } else { told }
+    outside(inside, size, name, 80, told, form == Form::Undone && !kept)
+}
+
+/// Why a record is not compared: its size is one that only the Rust takes (72 to 79 for a key record), its name passes its cell, or
+/// 01 does not name its size (positive, no multiple of 8, past the image).
+fn outside(inside: bool, size: Option<i32>, name: Option<u16>, fixed: u32, told: String, lossy: bool) -> String {
+    let size = size.map_or(0, |s| s.unsigned_abs());
+    if inside { if lossy { "- lossy".into() } else { told } }
+    else if size >= fixed - 8 && size < fixed { format!("- short {told}") }
+    else if size >= fixed && name.is_some_and(|n| fixed + n as u32 > size) { format!("- name {told}") }
+    else { format!("- size {told}") }
 }
 
 /// Not among what 01 compares: the Rust's value record, for sizes as 01 names them for key records.
@@ -233,11 +243,41 @@ fn value(c: &Case, file: &FileInfo, form: Form) -> String {
         }
         _ => "error".into(),
     };
-    let inside = match (u32_at(image, at).map(|x| x as i32), u16_at(image, at.saturating_add(6))) {
+    let (size, name) = (u32_at(image, at).map(|x| x as i32), u16_at(image, at.saturating_add(6)));
+    let inside = match (size, name) {
         (Some(s), Some(n)) => s < 0 && s % 8 == 0 && s.unsigned_abs() >= 24 + n as u32 && s.unsigned_abs() as usize <= image.len() - at,
         _ => false,
     };
-    if !inside { format!("- size {told}") } else if form == Form::Undone && !kept { "- lossy".into() } else { told }
+    outside(inside, size, name, 24, told, form == Form::Undone && !kept)
+}
+
+/// Not among what 01 compares: `read_values` and `get_value`, where each record up to the one found can be read by 01 and has a name
+/// that is empty or of 8 bits. `none`: no value of that name.
+fn lookup(c: &Case, file: &mut FileInfo) -> String {
+    file.hbin_offset_absolute = c.c as usize;
+    let (count, offset, image) = (c.a, c.b as i32, &file.buffer);
+    if count > 64 || offset <= 0 || offset as usize >= image.len() { return "- list".into(); }
+    let Ok((_, entries)) = CellKeyNode::parse_key_values(file, count, offset) else { return "- list".into() };
+    let mut plain = true;
+    for e in entries {
+        let at = e as usize + c.c as usize;
+        let told = value(&Case { tag: 7, a: at.min(u32::MAX as usize) as u32, b: 0, c: 0, d: 0, e: 0, name: vec![] }, file, Form::Converted);
+        let flags = u16_at(image, at.saturating_add(20)).unwrap_or(0);
+        plain &= !told.ends_with("error") && !told.starts_with("- name") && (flags & !KNOWN_VALUE_FLAGS == 0 && flags & 1 == 1);
+    }
+    let mut node = CellKeyNode::default();
+    node.detail.set_number_of_key_values(&count, 0);
+    node.detail.set_key_values_list_offset_relative(&offset, 0);
+    let _ = probe::read_values(&mut node, file, &mut State::default());
+    let name: String = c.name.iter().map(|&b| b as char).collect();
+    let told = match node.get_value(&name) {
+        Some(v) => {
+            let d = &v.detail;
+            format!("ok {} {} {} {} {} {} {} {}", v.file_offset_absolute, d.size(), !v.is_free() as u8, d.value_name_size(), d.data_size_raw(), d.data_offset_relative(), d.data_type_raw(), d.flags_raw())
+        }
+        None => "none".into(),
+    };
+    if plain { told } else { format!("- names {told}") }
 }
 
 /// Not among what 01 compares: one list by itself, its signature and count, by the Rust's four parsers.
@@ -252,7 +292,36 @@ fn one_list(c: &Case, file: &FileInfo) -> String {
     "error".into()
 }
 
+/// What `read_from_slice` and `read_sub_keys_internal`, which call these two, hand on: how many, and how many log lines.
+fn callers(c: &Case, file: &mut FileInfo) -> String {
+    file.hbin_offset_absolute = c.c as usize;
+    let mut node = CellKeyNode::default();
+    let mut state = State::default();
+    let found = if c.tag == 4 {
+        node.detail.set_number_of_key_values(&c.a, 0);
+        node.detail.set_key_values_list_offset_relative(&(c.b as i32), 0);
+        if c.a > 0 && probe::read_values(&mut node, file, &mut state).is_err() {
+            node.logs.add(crate::log::LogCode::WarningParse, &"Unable to parse values"); // as read_from_slice does
+        }
+        node.value_iter().count()
+    } else {
+        node.detail.set_number_of_sub_keys(&c.a, 0);
+        node.detail.set_sub_keys_list_offset_relative(&c.b, 0);
+        node.read_sub_keys_internal(file, &mut state, &crate::filter::Filter::new(), None, false).0.len()
+    };
+    format!("found {found}, {} log lines", node.logs.get().map_or(0, |l| l.len()))
+}
+
+/// Not in 01's domain: the Rust looks at a bin's signature only.
+fn bin(c: &Case, file: &FileInfo) -> String {
+    match file.buffer.get(c.a as usize..).map(|s| crate::hive_bin_header::HiveBinHeader::from_bytes(file, s)) {
+        Some(Ok((_, h))) => format!("- none header {} {}", h.offset_from_first_hbin, h.size),
+        _ => "- none error".into(),
+    }
+}
+
 pub fn answer(c: &Case, file: &mut FileInfo, form: Form) -> String {
+    if form == Form::Callers && matches!(c.tag, 4 | 5) { return callers(c, file); }
     let told = catch_unwind(AssertUnwindSafe(|| match c.tag {
         1 => match BaseBlockBase::calculate_checksum(&file.buffer) { Ok(x) => format!("ok {x}"), Err(_) => "error".into() },
         2 => base_block(&file.buffer, form),
@@ -261,6 +330,8 @@ pub fn answer(c: &Case, file: &mut FileInfo, form: Form) -> String {
         5 => walk(c, file, form),
         6 => key(c, file, form),
         7 => value(c, file, form),
+        8 => lookup(c, file),
+        10 => bin(c, file),
         11 => one_list(c, file),
         _ => "- none".into(),
     }));

@@ -18,6 +18,7 @@ fn fields(tag: &str) -> &'static str {
         "5" => "nxxnnx",
         "6" => "nnknnnnnnnnnnnnnnnnnnKnnn",
         "7" => "nnnnnnvV",
+        "8" => "nnnnnnnn",
         "11" => "nxn",
         _ => "n",
     }
@@ -35,7 +36,7 @@ fn convert(line: &str) -> String {
     let tag = words[0];
     if words.get(1) == Some(&"refused") {
         let empty = matches!(tag, "4" | "5") && matches!(words[2], "6" | "7");
-        return if empty { "empty" } else { "error" }.into();
+        return if empty { "empty" } else if tag == "8" && words[2] == "16" { "none" } else { "error" }.into();
     }
     let mut done = vec!["ok".to_string()];
     let (mut flags, mut made) = (0u16, "");
@@ -75,7 +76,7 @@ fn function(tag: u32) -> &'static str {
         5 => "subkey walk",
         6 => "key record",
         7 => "value record *",
-        8 => "lookup",
+        8 => "lookup *",
         9 => "name hash",
         10 => "bins and cells",
         11 => "one list *",
@@ -87,10 +88,10 @@ fn function(tag: u32) -> &'static str {
 fn lines(p: &str) -> impl Iterator<Item = String> { BufReader::new(std::fs::File::open(p).expect(p)).lines().map(|l| l.expect("text")) }
 
 /// Holds the lines of the Rust and of `paper.py` to the whole lines of the Rattle program. Writes a row for each kind of case: who,
-/// tag, why it is outside ("-": it is compared), equal, different. Shows the first differences on standard error.
+/// tag, why it is outside ("-": it is compared), equal, different, not run. Shows the first differences on standard error.
 pub fn compare(rust: &str, paper: &str, rattle: &str) {
     let (mut one, mut two, mut three) = (lines(rust), lines(paper), lines(rattle));
-    let mut counts: BTreeMap<(&str, u32, String), [u64; 2]> = Default::default();
+    let mut counts: BTreeMap<(&str, u32, String), [u64; 3]> = Default::default();
     let (mut index, mut shown) = (0u64, 0);
     let mut show = |who: &str, index: u64, x: &str, y: &str, mine: &str| {
         shown += 1;
@@ -114,19 +115,19 @@ pub fn compare(rust: &str, paper: &str, rattle: &str) {
         let mine = if y.split(' ').next() == Some(tag) { convert(&y) } else { format!("?? {y}") };
         let (why, told) = match told.strip_prefix("- ") { Some(rest) => rest.split_once(' ').unwrap_or((rest, "")), None => ("-", told) };
         if why == "none" { continue; }
-        counts.entry(("Rust", number, why.into())).or_default()[(told != mine) as usize] += 1;
+        counts.entry(("Rust", number, why.into())).or_default()[if told.is_empty() { 2 } else { (told != mine) as usize }] += 1;
         if why == "-" && told != mine { show("Rust", index, &x, &y, &mine); }
     }
-    for ((who, tag, why), c) in &counts { println!("{who} {tag} {why} {} {}", c[0], c[1]); }
+    for ((who, tag, why), c) in &counts { println!("{who} {tag} {why} {} {} {}", c[0], c[1], c[2]); }
 }
 
 /// Adds up the rows that `compare` wrote and prints the table; true where nothing that is compared differs.
 pub fn table() -> bool {
-    let mut counts: BTreeMap<(String, u32, String), [u64; 2]> = Default::default();
+    let mut counts: BTreeMap<(String, u32, String), [u64; 3]> = Default::default();
     for l in std::io::stdin().lock().lines().map(|l| l.expect("text")) {
         let w: Vec<&str> = l.split(' ').collect();
         let c = counts.entry((w[0].into(), w[1].parse().expect("a tag"), w[2].into())).or_default();
-        for i in 0..2 { c[i] += w[3 + i].parse::<u64>().expect("a number"); }
+        for i in 0..3 { c[i] += w[3 + i].parse::<u64>().expect("a number"); }
     }
     let mut good = true;
     for (who, title) in [("Rust", "the Rattle program against the Rust"), ("paper", "the Rattle program against compare/paper.py, whole lines")] {
@@ -135,8 +136,11 @@ pub fn table() -> bool {
         for ((w, tag, why), c) in &counts {
             if w != who || why != "-" { continue; }
             let outside: Vec<String> = counts.iter().filter(|((v, t, y), _)| v == who && t == tag && y != "-")
-                .map(|((_, _, y), c)| format!("{y} {}", c[0] + c[1])).collect();
-            println!("{:<18} {:>9} {:>9} {:>9}   {}", function(*tag), c[0] + c[1], c[0], c[1], outside.join(", "));
+                .map(|((_, _, y), c)| {
+                    let parts: Vec<String> = [(c[0], "equal"), (c[1], "different"), (c[2], "not run")].iter().filter(|p| p.0 > 0).map(|p| format!("{} {}", p.0, p.1)).collect();
+                    format!("{y}: {}", parts.join(", "))
+                }).collect();
+            println!("{:<18} {:>9} {:>9} {:>9}   {}", function(*tag), c[0] + c[1], c[0], c[1], outside.join("; "));
             if (4..=6).contains(tag) { three += c[0] + c[1]; }
             all += c[0] + c[1];
             good &= c[1] == 0;

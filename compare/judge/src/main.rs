@@ -2,6 +2,7 @@
 //!   judge answers < CASES > RUST        the Rust's answers, times, ids and texts as the Rust converts them
 //!   judge undone < CASES > RUST         the same with these conversions undone, or `- lossy` where they cannot be
 //!   judge unguarded < CASES             the walk with no look ahead: an `ri` that leads back to itself ends the process
+//!   judge callers < CASES               what the Rust's own callers make of a value list or a walk: results, and log lines
 //!   judge compare RUST PAPER RATTLE     holds the Rust's lines and paper.py's to the Rattle program's; writes counts
 //!   judge table < COUNTS                adds up such counts and prints the table; exit 1 where a compared case differs
 #![allow(dead_code, unused_imports, unexpected_cfgs, macro_expanded_macro_exports_accessed_by_absolute_paths)]
@@ -48,10 +49,11 @@ fn main() {
         ["answers"] => run(answers::Form::Converted),
         ["undone"] => run(answers::Form::Undone),
         ["unguarded"] => run(answers::Form::Unguarded),
+        ["callers"] => run(answers::Form::Callers),
         ["compare", a, b, c] => lines::compare(a, b, c),
         ["table"] => std::process::exit(!lines::table() as i32),
         _ => {
-            eprintln!("usage: judge answers | undone | unguarded | compare RUST PAPER RATTLE | table");
+            eprintln!("usage: judge answers | undone | unguarded | callers | compare RUST PAPER RATTLE | table");
             std::process::exit(2)
         }
     }

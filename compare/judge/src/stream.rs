@@ -8,8 +8,7 @@ pub const ROOM_MOST: usize = 262_144;
 const PATCH: u8 = 100;
 const LENGTH: u8 = 101;
 
-#[derive(Clone)]
-pub struct Case { pub tag: u8, pub a: u32, pub b: u32, pub c: u32, pub d: u32, pub e: u32 }
+pub struct Case { pub tag: u8, pub a: u32, pub b: u32, pub c: u32, pub d: u32, pub e: u32, pub name: Vec<u8> }
 
 /// Reads the cases one by one. The image of the case at hand is `file.buffer`; what stood behind it is kept, since a
 /// later case may set a greater length.
@@ -76,7 +75,7 @@ impl<R: Read> Cases<R> {
                 LENGTH => self.length(a as usize),
                 tag => {
                     if tag == 4 && d as usize > ROOM_MOST || tag == 5 && e as usize > ROOM_MOST { bad("room"); }
-                    return Some(Case { tag, a, b, c, d, e });
+                    return Some(Case { tag, a, b, c, d, e, name: if tag == 8 { self.name.clone() } else { vec![] } });
                 }
             }
         }

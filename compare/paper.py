@@ -354,8 +354,24 @@ def whole_value(image, position):
     return fields + [hexed(name)]
 
 
+def by_record(tag, a, c, d, e, name, image):
+    """The walk, the value list and the lookup from the key record at a position: its own counts and offsets."""
+    try:
+        key = key_record(image, a)
+    except Refused as r:
+        return ["refused", r.number, r.position]
+    subkeys, subkey_list, values, value_list_at = key[6], key[8], key[10], key[11] % 2 ** 32
+    if tag == 13:
+        return answer(4, values, value_list_at, c, d, e, name, image)
+    if tag == 14:
+        return answer(5, subkeys, subkey_list, c, d, e, name, image)
+    return answer(8, values, value_list_at, c, d, e, name, image)
+
+
 def answer(tag, a, b, c, d, e, name, image):
     as_signed = lambda x: x - 2 ** 32 if x >= 2 ** 31 else x
+    if tag in (13, 14, 15):
+        return by_record(tag, a, c, d, e, name, image)
     if tag == 4:
         out = pattern[:d]
         try:
@@ -443,7 +459,7 @@ def cases(read):
             length = words[0]
             image = None
         else:
-            if tag == 4 and words[3] > ROOM_MOST or tag == 5 and words[4] > ROOM_MOST:
+            if tag in (4, 13) and words[3] > ROOM_MOST or tag in (5, 14) and words[4] > ROOM_MOST:
                 bad("room")
             if image is None:
                 image = bytes(kept[:length])

@@ -81,6 +81,9 @@ fn function(tag: u32) -> &'static str {
         10 => "bins and cells",
         11 => "one list *",
         12 => "words",
+        13 => "record's values",
+        14 => "record's subkeys",
+        15 => "record's lookup",
         _ => "?",
     }
 }

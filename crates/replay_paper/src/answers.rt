@@ -111,9 +111,8 @@ fn as_signed(x: u32) -> i32 {
     words::i32_at(&bytes, 0)
 }
 
-fn values(image: &[u8], case: Case, out: &mut [u32]) {
-    places::prefill(out);
-    match cell_key_node::value_list(image, case.c, case.a, as_signed(case.b), out) {
+fn values_line(answer: ValueListAnswer, out: &[u32]) {
+    match answer {
         ValueListAnswer::Listed(count) => {
             lines::text(b" ok");
             lines::word(count);
@@ -129,9 +128,25 @@ fn values(image: &[u8], case: Case, out: &mut [u32]) {
     }
 }
 
-fn walk(image: &[u8], case: Case, out: &mut [u32]) {
+fn values(image: &[u8], case: Case, out: &mut [u32]) {
     places::prefill(out);
-    match sub_key_walk::sub_keys(image, case.c, case.a, case.b, case.d, out) {
+    let answer = cell_key_node::value_list(image, case.c, case.a, as_signed(case.b), out);
+    values_line(answer, out);
+}
+
+fn values_of(image: &[u8], case: Case, out: &mut [u32]) {
+    match cell_key_node::read_key_node(image, case.a as usize) {
+        KeyAnswer::Key(key) => {
+            places::prefill(out);
+            let answer = cell_key_node::value_list_of(image, case.c, key, out);
+            values_line(answer, out);
+        }
+        KeyAnswer::Refused(refusal) => refused(refusal),
+    }
+}
+
+fn walk_line(answer: WalkAnswer, out: &[u32]) {
+    match answer {
         WalkAnswer::Read(counts) => {
             lines::text(b" ok");
             lines::word(counts.kept);
@@ -148,6 +163,23 @@ fn walk(image: &[u8], case: Case, out: &mut [u32]) {
             lines::word(refusal.entries);
             places::untouched(out, 0);
         }
+    }
+}
+
+fn walk(image: &[u8], case: Case, out: &mut [u32]) {
+    places::prefill(out);
+    let answer = sub_key_walk::sub_keys(image, case.c, case.a, case.b, case.d, out);
+    walk_line(answer, out);
+}
+
+fn walk_of(image: &[u8], case: Case, out: &mut [u32]) {
+    match cell_key_node::read_key_node(image, case.a as usize) {
+        KeyAnswer::Key(key) => {
+            places::prefill(out);
+            let answer = cell_key_node::sub_keys_of(image, case.c, key, case.d, out);
+            walk_line(answer, out);
+        }
+        KeyAnswer::Refused(refusal) => refused(refusal),
     }
 }
 
@@ -218,8 +250,8 @@ fn value(image: &[u8], position: usize) {
     }
 }
 
-fn lookup(image: &[u8], case: Case, name: &[u8]) {
-    match cell_key_value::find_value(image, case.c, case.a, as_signed(case.b), name) {
+fn lookup_line(answer: LookupAnswer) {
+    match answer {
         LookupAnswer::Found(found) => {
             lines::text(b" ok");
             size(found.position);
@@ -227,6 +259,21 @@ fn lookup(image: &[u8], case: Case, name: &[u8]) {
             value_fields(value);
         }
         LookupAnswer::Refused(refusal) => refused(refusal),
+    }
+}
+
+fn lookup(image: &[u8], case: Case, name: &[u8]) {
+    let answer = cell_key_value::find_value(image, case.c, case.a, as_signed(case.b), name);
+    lookup_line(answer);
+}
+
+fn lookup_of(image: &[u8], case: Case, name: &[u8]) {
+    match cell_key_node::read_key_node(image, case.a as usize) {
+        KeyAnswer::Key(key) => {
+            let answer = cell_key_value::find_value_of(image, case.c, key, name);
+            lookup_line(answer);
+        }
+        KeyAnswer::Refused(refusal) => refused(refusal),
     }
 }
 
@@ -286,10 +333,11 @@ fn with_room(tag: u8, case: Case, image: &[u8], out: &mut [u32], room: u32) {
         lines::text(b" bad room");
         return;
     }
-    if tag == 4 {
-        values(image, case, &mut out[0..n]);
-    } else {
-        walk(image, case, &mut out[0..n]);
+    match tag {
+        4 => values(image, case, &mut out[0..n]),
+        5 => walk(image, case, &mut out[0..n]),
+        13 => values_of(image, case, &mut out[0..n]),
+        _ => walk_of(image, case, &mut out[0..n]),
     }
 }
 
@@ -307,6 +355,9 @@ pub fn answer(tag: u8, case: Case, image: &[u8], name: &[u8], out: &mut [u32]) {
         10 => bins(image, case.a, case.b),
         11 => list(image, case.a as usize),
         12 => words_at(image, case.a as usize),
+        13 => with_room(tag, case, image, out, case.d),
+        14 => with_room(tag, case, image, out, case.e),
+        15 => lookup_of(image, case, name),
         _ => lines::text(b" none"),
     }
 }

@@ -138,11 +138,19 @@ impl<W: Write> Out<W> {
     fn length(&mut self, n: usize) { self.want_length = n; }
     fn values(&mut self, count: u32, offset: u32, base: u32, room: u32) { self.case(4, &[count, offset, base, room], None); }
     fn walk(&mut self, count: u32, list: u32, base: u32, budget: u32, room: u32) { self.case(5, &[count, list, base, budget, room], None); }
-    fn lookup(&mut self, count: u32, offset: u32, base: u32, name: &[u8]) {
-        if !self.takes(8) { return; }
+    fn lookup(&mut self, count: u32, offset: u32, base: u32, name: &[u8]) { self.named(8, &[count, offset, base], name); }
+    fn named(&mut self, tag: u8, words: &[u32], name: &[u8]) {
+        if !self.takes(tag) { return; }
         let mut w = self.words;
-        w[..3].copy_from_slice(&[count, offset, base]);
-        self.written(8, w, Some(name));
+        w[..words.len()].copy_from_slice(words);
+        self.written(tag, w, Some(name));
+    }
+    /// Value list, walk and lookup from the key record at a position.
+    fn record(&mut self, at: u32, base: u32, budget: u32, room: u32, name: &[u8]) {
+        let b = self.words[1];
+        self.case(13, &[at, b, base, room], None);
+        self.case(14, &[at, b, base, budget, room], None);
+        self.named(15, &[at, b, base], name);
     }
 }
 
@@ -414,6 +422,23 @@ fn boundaries(o: &mut Out<impl Write>) {
     for (at, x) in [(48, 0u8), (52, b'n'), (54, 30), (12, 101), (12, 90), (8, 200)] { o.patch(at, &[x]); o.lookup(2, 4, 0, b"@ab["); o.lookup(2, 4, 0, b"no"); o.patch(at, &m[at..at + 1]); }
     o.patch(22, &[0, 0]); o.lookup(1, 4, 0, b""); o.lookup(1, 4, 0, b"a");
     for (count, off) in [(1 << 20, 4), ((1 << 20) + 1, 4), (1, 0), (1, 99), (1, 100), (24, 4), (23, 4), (3, 88)] { for base in [0, 1, 2] { o.lookup(count, off, base, b"x"); } }
+    // from a record: its own counts and offsets, one after the other wrong
+    let mut m = vec![0; 400];
+    key(r, &mut m, 0, b"key", 0x20, -88);
+    for (at, x) in [(24, 1u32), (28, 2), (32, 100), (36, 3), (40, 2), (44, 128)] { put32(&mut m, at, x); }
+    list(&mut m, 100, b"lf", &[7, 8, 9, 10], 2);
+    for (i, x) in [0u32, 160, 200].into_iter().enumerate() { put32(&mut m, 128 + 4 * i, x); }
+    value(&mut m, 160, b"one", 1, -32, [1, 2, 3]);
+    value(&mut m, 200, b"two", 1, -32, [4, 5, 6]);
+    o.image(&m);
+    for room in [0, 1, 2, 3] { o.record(0, 0, 1, room, b"TWO"); }
+    for budget in [0, BUDGET, BUDGET + 1] { o.record(0, 0, budget, 2, b"none"); }
+    for base in [1, 4, 400, u32::MAX] { o.record(0, base, 1, 2, b"one"); }
+    for at in [1, 320, 321, 400, 401] { o.record(at, 0, 1, 2, b"one"); }
+    for (at, words) in [(24usize, [0u32, 1 << 20, (1 << 20) + 1]), (32, [0, 396, u32::MAX]), (40, [0, 1 << 20, (1 << 20) + 1]), (44, [0, 399, u32::MAX]), (4, [0, 1, 2])] {
+        for x in words { o.patch(at, &x.to_le_bytes()); o.record(0, 0, 1, 2, b"two"); }
+        o.patch(at, &m[at..at + 4]);
+    }
     // hash
     for x in [0u8, 64, 65, 90, 96, 97, 122, 123, 127, 128, 223, 224, 246, 247, 248, 254, 255] { o.case(9, &[0x20], Some(&[x])); o.case(9, &[0], Some(&[x, 0])); o.case(9, &[0], Some(&[x, 1])); }
     for m in [&b"A"[..], b"ab", b"", b"abc"] { for flags in [0, 0x20, 0xffdf] { o.case(9, &[flags], Some(m)); } }
@@ -695,6 +720,7 @@ fn hive(o: &mut Out<impl Write>, m: &[u8], few: bool) {
                 seen += 1;
                 o.case(6, &[p as u32], None);
                 o.walk(get32(m, p + 24), get32(m, p + 32), 4096, 1024, ENOUGH);
+                o.record(p as u32, 4096, 1024, ENOUGH, b"value1");
                 o.values(get32(m, p + 40), get32(m, p + 44), 4096, ENOUGH);
                 let end = (p + 80 + get16(m, p + 76) as usize).min(m.len());
                 if !few { o.case(9, &[get16(m, p + 6) as u32], Some(&m[p + 80..end])); o.image(m); }
@@ -739,11 +765,11 @@ fn hives(o: &mut Out<impl Write>, r: &mut Rng, files: &[String], cuts: usize, da
 /// The samples that are stored: a share of all of these. `rust`: only what the Rust has.
 fn stored(o: &mut Out<impl Write>, seed: u64, files: &[String], rust: bool) {
     o.pick = Rng(seed);
-    //                   checksum, block, db, values, walk, key, value, lookup, hash, bins, list, words
+    //                   checksum, block, db, values, walk, key, value, lookup, hash, bins, list, words, and three by the record
     let shares: [[u64; 16]; 3] = if rust {
         [[0, 16, 24, 60, 20, 24, 6, 16, 0, 0, 0, 24, 0, 0, 0, 0], [0, 4, 2, 8, 2, 2, 2, 6, 0, 0, 0, 6, 0, 0, 0, 0], [0, 3, 6, 6, 3, 2, 2, 6, 0, 0, 0, 2, 0, 0, 0, 0]]
     } else {
-        [[0, 8, 80, 10, 3, 7, 10, 10, 4, 1, 1, 12, 1, 0, 0, 0], [0, 8, 16, 8, 1, 1, 5, 5, 1, 1, 2, 3, 3, 0, 0, 0], [0, 3, 12, 3, 2, 1, 3, 3, 3, 1, 1, 1, 0, 0, 0, 0]]
+        [[0, 8, 80, 10, 3, 7, 10, 10, 4, 1, 1, 12, 1, 1, 1, 1], [0, 8, 16, 8, 1, 1, 5, 5, 1, 1, 2, 3, 3, 2, 2, 2], [0, 3, 12, 3, 2, 1, 3, 3, 3, 1, 1, 1, 0, 2, 2, 2]]
     };
     o.one_in = if rust { [0, 1, 1, 1, 1, 1, 1, 1, 0, 0, 0, 1, 0, 0, 0, 0] } else { [1; 16] };
     boundaries(o);
@@ -765,6 +791,7 @@ fn all(o: &mut Out<impl Write>, r: &mut Rng, m: &[u8], places: &[usize], base: u
     for &p in places {
         for q in [p, p + 1, p.wrapping_sub(4)] {
             for tag in [6, 7, 11, 12] { o.case(tag, &[q as u32], None); }
+            if q == p { o.record(p as u32, base, BUDGET, 8, b""); }
             o.walk(1, (q as u32).wrapping_sub(base), base, BUDGET, ENOUGH);
             let n = r.below(9) as u32;
             o.values(n, (q as u32).wrapping_sub(base), base, ENOUGH);

@@ -1,6 +1,6 @@
 pub mod Checks
 pub mod Fill
 pub mod ValueLists
-pub mod Answers
+pub mod Papers
 pub mod Examples
 pub mod Wholes

@@ -10,6 +10,7 @@ use borrow.Author.Tests.{eq-eqb, ne-eqb, lt-ltb, le-ltb}
 use Rattle.words.specs.declared.Refusal.{Refusal}
 use Rattle.words.specs.Words.{aboveZero}
 use Rattle.words.specs.Paper.{Told, Paper, success, refused, by, told}
+use Rattle.sub_key_walk.specs.Answers.{COUNT-LIMIT}
 use Rattle.words.specs.Refusals.{NO-LIST, TOO-MANY, OUTSIDE, CUT-SHORT, NO-ROOM}
 use Rattle.words.proofs.Papers.{success-refused, same-success}
 use Rattle.cell_key_node.specs.ValueList.{positionOf, placeOf, noRoom, valueListOf, entryOf, upTo, written, valueListPaper, Answered}
@@ -30,7 +31,7 @@ module _ (image : List ℕ) (base count : ℕ) (offset : ℤ) where
       let q : ℕ = positionOf base offset in
       let a = passed (eqb (aboveZero offset) 0) (by NO-LIST 0) _ p e in
       let b = passed (leb (length image) (aboveZero offset)) (by NO-LIST 0) _ p a in
-      let d = passed (ltb 1048576 count) (by TOO-MANY 0) _ p b in
+      let d = passed (ltb COUNT-LIMIT count) (by TOO-MANY 0) _ p b in
       let f = passed (ltb (length image) q) (by OUTSIDE q) _ p d in
       sym (same-success (passed (ltb (length image) (q + 4 + 4 * count)) (by CUT-SHORT q) _ p f))
 

@@ -9,6 +9,7 @@ use lib.IntN.{ℤ}
 use Rattle.words.specs.Words.{word32, aboveZero}
 use Rattle.words.specs.Paper.{Told, Paper, success, refused, by, told}
 use Rattle.words.specs.Refusals.{NO-LIST, TOO-MANY, OUTSIDE, CUT-SHORT, NO-ROOM}
+use Rattle.sub_key_walk.specs.Answers.{COUNT-LIMIT}
 use Rattle.cell_key_node.specs.declared.PlaceAnswer.{PlaceAnswer}
 use Rattle.cell_key_node.specs.declared.PlaceAnswer.the-variants.{Place, Refused as NoPlace}
 use Rattle.cell_key_node.specs.declared.ListRefusal.{ListRefusal}
@@ -26,7 +27,7 @@ unfoldable pub placeOf : List ℕ → ℕ → ℕ → ℤ → Paper ℕ
 placeOf image base count offset =
     cond (eqb (aboveZero offset) 0) (refused (by NO-LIST 0))
     (cond (leb (length image) (aboveZero offset)) (refused (by NO-LIST 0))
-    (cond (ltb 1048576 count) (refused (by TOO-MANY 0))
+    (cond (ltb COUNT-LIMIT count) (refused (by TOO-MANY 0))
     (cond (ltb (length image) (positionOf base offset)) (refused (by OUTSIDE (positionOf base offset)))
     (cond (ltb (length image) (positionOf base offset + 4 + 4 * count)) (refused (by CUT-SHORT (positionOf base offset)))
     (success (positionOf base offset))))))

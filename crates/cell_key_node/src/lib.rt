@@ -8,6 +8,7 @@ ghost use Rattle.cell_key_node.specs.Records.{sizeOf, cellFault, faultAt
 ghost use Rattle.cell_key_node.specs.Key.{keyOf, keyAt, keyPaper, keyName, keySlack};
 ghost use Rattle.cell_key_node.specs.ValueList.{placeOf, placePaper, upTo, entryOf, Answered};
 ghost use Rattle.sub_key_walk.specs.Answers.{Answered as Walked};
+use sub_key_walk::COUNT_LIMIT;
 use sub_key_walk::WalkAnswer;
 use words::Refusal;
 
@@ -17,9 +18,6 @@ const FIXED: usize = 80;
 const SIGNATURE: u16 = 0x6B6E;
 
 const NAME_SIZE_AT: usize = 76;
-
-// The greatest number of values that is read.
-const MOST: u32 = 1048576;
 
 // A key record's numbers, in the order in which they stand; `allocated` is the sign of its size.
 pub struct KeyNode {
@@ -218,7 +216,7 @@ pub fn value_list_place(image: &[u8], base: u32, count: u32, offset: i32) -> Pla
             position: 0,
         });
     }
-    if MOST < count {
+    if COUNT_LIMIT < count {
         return PlaceAnswer::Refused(Refusal {
             number: words::TOO_MANY,
             position: 0,

@@ -1,4 +1,4 @@
 pub mod Texts
 pub mod Lookups
-pub mod Answers
+pub mod Papers
 pub mod Examples

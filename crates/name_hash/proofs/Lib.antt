@@ -1,4 +1,4 @@
 pub mod Table
 pub mod Laws
-pub mod Answers
+pub mod Papers
 pub mod Examples

@@ -150,7 +150,7 @@ pub record Demand3 (s : List ℕ) (base count list budget : ℕ) (old : List ℕ
   pub untouched : (f : WalkRefusal) → r ≡ Refused f → new ≡ old
 
 pub demand-3 : (s : List ℕ) (base count list budget : ℕ) (old : List ℕ) (r : WalkAnswer) (new : List ℕ)
-    → Answered s base count list budget old r new → 1 ≤ count → count ≤ 1048576 → budget ≤ 65536 → Demand3 s base count list budget old r new
+    → Answered s base count list budget old r new → 1 ≤ count → count ≤ COUNT-LIMIT → budget ≤ BUDGET-LIMIT → Demand3 s base count list budget old r new
 demand-3 s base count list budget old r new x some few small = record {
   if = λ m. record { counts = countsOf (walkFrom s base list); is = paper-read r _ (x .answer ∙ succeeds-if s base count list budget (length old) d m) };
   only-if = λ y. why y .met;

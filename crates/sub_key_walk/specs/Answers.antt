@@ -14,7 +14,7 @@ use Rattle.sub_key_walk.specs.declared.WalkRefusal.{WalkRefusal}
 use Rattle.sub_key_walk.specs.declared.WalkAnswer.{WalkAnswer}
 use Rattle.sub_key_walk.specs.declared.WalkAnswer.the-variants.{Read, Refused}
 
--- 13: "budget above 65,536"; 7: "subkey .. count above 1,048,576"
+-- 13: "budget above 65,536"; 7: "subkey or value count above 1,048,576"
 abbrev pub BUDGET-LIMIT : ℕ
 BUDGET-LIMIT = 65536
 

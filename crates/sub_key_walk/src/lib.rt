@@ -8,10 +8,10 @@ ghost use Rattle.sub_key_walk.specs.Judge.{fault};
 ghost use Rattle.sub_key_walk.specs.Answers.{BUDGET-LIMIT, walkPaper, noRoom, Answered};
 ghost use Rattle.sub_key_walk.specs.Walk.{Bounded, Walk};
 
-// The greatest budget, the greatest subkey count, and the levels of lists.
+// The greatest budget, the greatest count of subkeys or of values, and the levels of lists.
 const BUDGET_LIMIT: u32 = 65536;
 
-const COUNT_LIMIT: u32 = 1048576;
+pub const COUNT_LIMIT: u32 = 1048576;
 
 const LEVELS: u32 = 8;
 

@@ -1,0 +1,33 @@
+-- The promises fix the answers: two answers that say the same are the same. Assumes nothing.
+use mathlib.Core.Path.{_≡_, ap}
+use Rattle.words.proofs.Papers.{success-refused, refused-success, same-success, same-told, same-refusal}
+use Rattle.cell_key_node.specs.Key.{keyPaper}
+use Rattle.cell_key_node.specs.ValueList.{placePaper, toldOfList, valueListPaper}
+use Rattle.cell_key_node.specs.declared.KeyAnswer.{KeyAnswer}
+use Rattle.cell_key_node.specs.declared.KeyAnswer.the-variants.{Key, Refused as NoKey}
+use Rattle.cell_key_node.specs.declared.PlaceAnswer.{PlaceAnswer}
+use Rattle.cell_key_node.specs.declared.PlaceAnswer.the-variants.{Place, Refused as NoPlace}
+use Rattle.cell_key_node.specs.declared.ListRefusal.{ListRefusal}
+use Rattle.cell_key_node.specs.declared.ValueListAnswer.{ValueListAnswer}
+use Rattle.cell_key_node.specs.declared.ValueListAnswer.the-variants.{Listed, Refused as NoList}
+
+pub key-injective : (r t : KeyAnswer) → keyPaper r ≡ keyPaper t → r ≡ t
+key-injective (Key k) (Key l) e = ap Key (same-success e)
+key-injective (Key k) (NoKey f) e = absurd (success-refused e)
+key-injective (NoKey f) (Key k) e = absurd (refused-success e)
+key-injective (NoKey f) (NoKey g) e = ap NoKey (same-refusal (same-told e))
+
+pub place-injective : (r t : PlaceAnswer) → placePaper r ≡ placePaper t → r ≡ t
+place-injective (Place p) (Place q) e = ap Place (same-success e)
+place-injective (Place p) (NoPlace f) e = absurd (success-refused e)
+place-injective (NoPlace f) (Place p) e = absurd (refused-success e)
+place-injective (NoPlace f) (NoPlace g) e = ap NoPlace (same-refusal (same-told e))
+
+same-list-refusal : {f g : ListRefusal} → toldOfList f ≡ toldOfList g → f ≡ g
+same-list-refusal e = λ i. record { number = e i .number; position = e i .position; places = e i .places }
+
+pub list-injective : (r t : ValueListAnswer) → valueListPaper r ≡ valueListPaper t → r ≡ t
+list-injective (Listed n) (Listed m) e = ap Listed (same-success e)
+list-injective (Listed n) (NoList f) e = absurd (success-refused e)
+list-injective (NoList f) (Listed n) e = absurd (refused-success e)
+list-injective (NoList f) (NoList g) e = ap NoList (same-list-refusal (same-told e))

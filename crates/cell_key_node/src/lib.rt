@@ -204,6 +204,7 @@ pub fn value_list_place(image: &[u8], base: u32, count: u32, offset: i32) -> Pla
     ensures { λ r. ⌜ placePaper r ≡ placeOf (now (image .entry)) base count offset ⌝ }
 {
     let relative = words::above_zero(offset) as usize;
+    let place = relative + base as usize;
     if relative == 0 {
         return PlaceAnswer::Refused(Refusal {
             number: words::NO_LIST,
@@ -222,7 +223,6 @@ pub fn value_list_place(image: &[u8], base: u32, count: u32, offset: i32) -> Pla
             position: 0,
         });
     }
-    let place = relative + base as usize;
     if image.len() < place {
         return PlaceAnswer::Refused(Refusal {
             number: words::OUTSIDE,

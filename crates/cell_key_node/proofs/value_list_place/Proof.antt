@@ -16,6 +16,9 @@ above-zero-requires c κs = search needs
 cast-relative : tie.Need-cast-relative
 cast-relative c = search needs
 
+add-place : tie.Need-add-place
+add-place c = search needs
+
 returns : tie.Need-returns
 unfolding placeOf
 returns c =
@@ -33,9 +36,6 @@ unfolding placeOf
 returns-3 c =
     let e = c .before .before .before .above-zero .ensures ∙ ap aboveZero (back (c .before .before .before .before .before .args .offset) (c .before .before .before .before .before .fits .offset)) in
     simp (← e, ne-eqb _ _ (c .before .before .if1 .left), lt-leb _ _ (c .before .if2 .left), lt-ltb _ _ (c .if3 .taken))
-
-add-place : tie.Need-add-place
-add-place c = search needs
 
 returns-4 : tie.Need-returns-4
 unfolding placeOf
@@ -70,10 +70,10 @@ value-list-place-spec =
     (tie.spec
     above-zero-requires
     cast-relative
+    add-place
     returns
     returns-2
     returns-3
-    add-place
     returns-4
     mul-entries
     add-end

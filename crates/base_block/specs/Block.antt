@@ -6,7 +6,7 @@ use lib.ListN.{length, take, drop}
 use lib.Dec.{ltb, eqb}
 use Rattle.words.specs.Words.{word32, word64, signed}
 use Rattle.words.specs.Refusals.{SHORT, BAD-SIGN}
-use Rattle.words.specs.Paper.{Paper, checked, handed}
+use Rattle.words.specs.Paper.{Paper, checked, handed, handedAt}
 use Rattle.base_block.specs.Checksum.{sumOf}
 use Rattle.base_block.specs.declared.FileType.{FileType}
 use Rattle.base_block.specs.declared.FileType.the-variants.{Primary, TransactionLog, TransactionLogNewFormat, UnknownType}
@@ -61,3 +61,7 @@ blockOf s = checked (faultOf s) 0 (fieldsOf s)
 -- the n bytes at i of an image that holds a base block
 unfoldable pub partOf : List ℕ → ℕ → ℕ → List ℕ
 partOf s i n = handed (faultOf s) (take n (drop i s))
+
+-- and where they start
+unfoldable pub partAt : List ℕ → ℕ → ℕ
+partAt s i = handedAt (faultOf s) i

@@ -1,7 +1,9 @@
 // The base block of a hive, its first 4,096 bytes, and its checksum.
 ghost use mathlib.Core.Path.{_≡_};
+ghost use Prim.Native.Nat.{_≤_};
+ghost use Rattle.words.specs.Parts.{Part};
 ghost use Rattle.base_block.specs.Checksum.{xorOf, mended, checksumOf};
-ghost use Rattle.base_block.specs.Block.{typeOf, formatOf, fieldsOf, faultOf, blockOf, partOf};
+ghost use Rattle.base_block.specs.Block.{typeOf, formatOf, fieldsOf, faultOf, blockOf, partOf, partAt};
 ghost use Rattle.base_block.specs.Answers.{sumPaper, blockPaper};
 use words::Refusal;
 
@@ -169,54 +171,55 @@ pub fn read_base_block(image: &[u8]) -> BlockAnswer
 
 // A part of the image that holds a base block, the empty part where it holds none.
 fn block_part(image: &[u8], at: usize, n: usize) -> &[u8]
-    ensures { λ r. ⌜ now r ≡ partOf (now (image .entry)) at n ⌝ }
+    requires { ⌜ at ≤ 4096 ⌝ }
+    ensures { λ r. ⌜ Part (image .entry) r (partAt (now (image .entry)) at) (partOf (now (image .entry)) at n) ⌝ }
 {
     let number = fault(image);
     if number == 0 {
         words::part(image, at, n)
     } else {
-        &image[..0]
+        &image[0..0]
     }
 }
 
 // The 64 bytes of the file's name.
 pub fn filename(image: &[u8]) -> &[u8]
-    ensures { λ r. ⌜ now r ≡ partOf (now (image .entry)) 48 64 ⌝ }
+    ensures { λ r. ⌜ Part (image .entry) r (partAt (now (image .entry)) 48) (partOf (now (image .entry)) 48 64) ⌝ }
 {
     block_part(image, 48, 64)
 }
 
 // The 396 bytes that have no name.
 pub fn unnamed(image: &[u8]) -> &[u8]
-    ensures { λ r. ⌜ now r ≡ partOf (now (image .entry)) 112 396 ⌝ }
+    ensures { λ r. ⌜ Part (image .entry) r (partAt (now (image .entry)) 112) (partOf (now (image .entry)) 112 396) ⌝ }
 {
     block_part(image, 112, 396)
 }
 
 // The 16 bytes of the resource manager's id.
 pub fn rm_id(image: &[u8]) -> &[u8]
-    ensures { λ r. ⌜ now r ≡ partOf (now (image .entry)) 512 16 ⌝ }
+    ensures { λ r. ⌜ Part (image .entry) r (partAt (now (image .entry)) 512) (partOf (now (image .entry)) 512 16) ⌝ }
 {
     block_part(image, 512, 16)
 }
 
 // The 16 bytes of the log's id.
 pub fn log_id(image: &[u8]) -> &[u8]
-    ensures { λ r. ⌜ now r ≡ partOf (now (image .entry)) 528 16 ⌝ }
+    ensures { λ r. ⌜ Part (image .entry) r (partAt (now (image .entry)) 528) (partOf (now (image .entry)) 528 16) ⌝ }
 {
     block_part(image, 528, 16)
 }
 
 // The 16 bytes of the transaction manager's id.
 pub fn tm_id(image: &[u8]) -> &[u8]
-    ensures { λ r. ⌜ now r ≡ partOf (now (image .entry)) 548 16 ⌝ }
+    ensures { λ r. ⌜ Part (image .entry) r (partAt (now (image .entry)) 548) (partOf (now (image .entry)) 548 16) ⌝ }
 {
     block_part(image, 548, 16)
 }
 
 // The 3,512 bytes of the extension behind its time.
 pub fn remaining(image: &[u8]) -> &[u8]
-    ensures { λ r. ⌜ now r ≡ partOf (now (image .entry)) 576 3512 ⌝ }
+    ensures { λ r. ⌜ Part (image .entry) r (partAt (now (image .entry)) 576) (partOf (now (image .entry)) 576 3512) ⌝ }
 {
     block_part(image, 576, 3512)
 }

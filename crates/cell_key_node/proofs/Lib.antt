@@ -1,4 +1,5 @@
 pub mod Checks
+pub mod Places
 pub mod Fill
 pub mod ValueLists
 pub mod Papers

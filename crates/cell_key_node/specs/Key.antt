@@ -5,7 +5,7 @@ use lib.ListN.{take, drop}
 use lib.IntN.{pos}
 use lib.Signed.{ltZ}
 use Rattle.words.specs.Words.{word16, word32, word64, signed}
-use Rattle.words.specs.Paper.{Paper, success, refused, told, checked, handed}
+use Rattle.words.specs.Paper.{Paper, success, refused, told, checked, handed, handedAt}
 use Rattle.cell_key_node.specs.Records.{sizeOf, faultAt}
 use Rattle.cell_key_node.specs.declared.KeyNode.{KeyNode}
 use Rattle.cell_key_node.specs.declared.KeyAnswer.{KeyAnswer}
@@ -62,6 +62,13 @@ keyName image position = handed (keyFault image position) (nameIn (drop position
 
 unfoldable pub keySlack : List ℕ → ℕ → List ℕ
 keySlack image position = handed (keyFault image position) (slackIn (drop position image))
+
+-- where they start, counted from the image's start: the name after the fixed part, the slack after the name
+unfoldable pub keyNameAt : List ℕ → ℕ → ℕ
+keyNameAt image position = handedAt (keyFault image position) (position + 80)
+
+unfoldable pub keySlackAt : List ℕ → ℕ → ℕ
+keySlackAt image position = handedAt (keyFault image position) (position + (80 + word16 (drop position image) 76))
 
 -- what the code's answer says
 abbrev pub keyPaper : KeyAnswer → Paper KeyNode

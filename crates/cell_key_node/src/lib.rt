@@ -4,8 +4,9 @@ ghost use mathlib.Core.Path.{_≡_};
 ghost use Prim.Native.Nat.{_≤_};
 ghost use mathlib.Core.List.{_++_};
 ghost use lib.ListN.{length, drop};
+ghost use Rattle.words.specs.Parts.{Part};
 ghost use Rattle.cell_key_node.specs.Records.{sizeOf, cellFault, faultAt};
-ghost use Rattle.cell_key_node.specs.Key.{keyOf, keyAt, keyPaper, keyName, keySlack};
+ghost use Rattle.cell_key_node.specs.Key.{keyOf, keyAt, keyPaper, keyName, keyNameAt, keySlack, keySlackAt};
 ghost use Rattle.cell_key_node.specs.ValueList.{placeOf, placePaper, upTo, entryOf, Answered};
 ghost use Rattle.sub_key_walk.specs.Answers.{Answered as Walked};
 use sub_key_walk::COUNT_LIMIT;
@@ -170,7 +171,7 @@ pub fn read_key_node(image: &[u8], position: usize) -> KeyAnswer
 
 // The name of the key record at a position, as a part of the image; empty where the record is refused.
 pub fn key_name(image: &[u8], position: usize) -> &[u8]
-    ensures { λ r. ⌜ now r ≡ keyName (now (image .entry)) position ⌝ }
+    ensures { λ r. ⌜ Part (image .entry) r (keyNameAt (now (image .entry)) position) (keyName (now (image .entry)) position) ⌝ }
 {
     let fault = record_fault(image, position, FIXED, SIGNATURE, NAME_SIZE_AT);
     if fault == 0 {
@@ -178,13 +179,13 @@ pub fn key_name(image: &[u8], position: usize) -> &[u8]
         let size = words::u16_at(cell, NAME_SIZE_AT) as usize;
         words::part(cell, FIXED, size)
     } else {
-        &image[..0]
+        &image[0..0]
     }
 }
 
 // What lies between the name's end and the cell's end, as a part of the image; empty where the record is refused.
 pub fn key_slack(image: &[u8], position: usize) -> &[u8]
-    ensures { λ r. ⌜ now r ≡ keySlack (now (image .entry)) position ⌝ }
+    ensures { λ r. ⌜ Part (image .entry) r (keySlackAt (now (image .entry)) position) (keySlack (now (image .entry)) position) ⌝ }
 {
     let fault = record_fault(image, position, FIXED, SIGNATURE, NAME_SIZE_AT);
     if fault == 0 {
@@ -195,7 +196,7 @@ pub fn key_slack(image: &[u8], position: usize) -> &[u8]
         let end = FIXED + name;
         words::from(whole, end)
     } else {
-        &image[..0]
+        &image[0..0]
     }
 }
 

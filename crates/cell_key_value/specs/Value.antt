@@ -1,11 +1,11 @@
 -- Document 01, "Key and value records": the value record.
-use Prim.Native.Nat.{ℕ}
+use Prim.Native.Nat.{ℕ, _+_}
 use mathlib.Core.List.{List}
 use lib.ListN.{take, drop}
 use lib.IntN.{pos}
 use lib.Signed.{ltZ}
 use Rattle.words.specs.Words.{word16, word32, signed}
-use Rattle.words.specs.Paper.{Paper, success, refused, told, checked, handed}
+use Rattle.words.specs.Paper.{Paper, success, refused, told, checked, handed, handedAt}
 use Rattle.cell_key_node.specs.Records.{faultAt}
 use Rattle.cell_key_value.specs.declared.KeyValue.{KeyValue}
 use Rattle.cell_key_value.specs.declared.ValueAnswer.{ValueAnswer}
@@ -36,6 +36,10 @@ valueAt image position = checked (valueFault image position) position (valueOf (
 -- "name 24", as a part of the image, and the empty part of a refused record
 unfoldable pub valueName : List ℕ → ℕ → List ℕ
 valueName image position = handed (valueFault image position) (take (word16 (drop position image) 6) (drop 24 (drop position image)))
+
+-- where it starts, counted from the image's start
+unfoldable pub valueNameAt : List ℕ → ℕ → ℕ
+valueNameAt image position = handedAt (valueFault image position) (position + 24)
 
 -- what the code's answer says
 abbrev pub valuePaper : ValueAnswer → Paper KeyValue

@@ -1,7 +1,8 @@
 // Value records: the record at a position, its name as a part of the image, and the lookup of a value by its name.
 ghost use mathlib.Core.Path.{_≡_};
+ghost use Rattle.words.specs.Parts.{Part};
 ghost use Rattle.cell_key_node.specs.ValueList.{upTo, entryOf};
-ghost use Rattle.cell_key_value.specs.Value.{valueFault, valueOf, valueAt, valuePaper, valueName};
+ghost use Rattle.cell_key_value.specs.Value.{valueFault, valueOf, valueAt, valuePaper, valueName, valueNameAt};
 ghost use Rattle.cell_key_value.specs.Text.{lowerOf, sameText, matchesOf};
 ghost use Rattle.cell_key_value.specs.Lookup.{refusalOf, lookThrough, lookupOf, lookupPaper};
 use cell_key_node::KeyNode;
@@ -86,7 +87,7 @@ pub fn read_key_value(image: &[u8], position: usize) -> ValueAnswer
 
 // The name of the value record at a position, as a part of the image; empty where the record is refused.
 pub fn value_name(image: &[u8], position: usize) -> &[u8]
-    ensures { λ r. ⌜ now r ≡ valueName (now (image .entry)) position ⌝ }
+    ensures { λ r. ⌜ Part (image .entry) r (valueNameAt (now (image .entry)) position) (valueName (now (image .entry)) position) ⌝ }
 {
     let fault = value_fault(image, position);
     if fault == 0 {
@@ -94,7 +95,7 @@ pub fn value_name(image: &[u8], position: usize) -> &[u8]
         let size = words::u16_at(cell, NAME_SIZE_AT) as usize;
         words::part(cell, FIXED, size)
     } else {
-        &image[..0]
+        &image[0..0]
     }
 }
 

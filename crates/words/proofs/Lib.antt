@@ -3,3 +3,4 @@ pub mod Little
 pub mod Signed
 pub mod Parts
 pub mod Papers
+pub mod Buffers

@@ -1,11 +1,10 @@
 -- What document 01 says of an answer tells the answers apart. Assumes nothing.
 use mathlib.Core.Path.{_≡_, sym}
-use mathlib.Core.List.{List, []}
 use Prim.Native.Nat.{ℕ}
 use native.Mathlib.Omega.{arith}
 use borrow.Author.Tests.{eq-eqb, ne-eqb}
 use Rattle.words.specs.declared.Refusal.{Refusal}
-use Rattle.words.specs.Paper.{Told, Paper, success, refused, by, told, checked, handed}
+use Rattle.words.specs.Paper.{Told, Paper, success, refused, by, told, checked}
 
 -- a success is no refusal
 pub success-refused : {A : Type 0} {v : A} {t : Told} → success v ≡ refused t → ⊥
@@ -33,12 +32,3 @@ module _ {A : Type 0} (n p : ℕ) (v : A) where
   pub checked-bad : (n ≡ 0 → ⊥) → checked n p v ≡ refused (by n p)
   unfolding checked
   checked-bad e = simp (ne-eqb _ _ e)
-
-module _ (n : ℕ) (part : List ℕ) where
-  pub handed-good : n ≡ 0 → handed n part ≡ part
-  unfolding handed
-  handed-good e = simp (eq-eqb _ _ e)
-
-  pub handed-bad : (n ≡ 0 → ⊥) → handed n part ≡ []
-  unfolding handed
-  handed-bad e = simp (ne-eqb _ _ e)

@@ -3,6 +3,7 @@ use Prim.Native.Nat.{ℕ}
 use mathlib.Core.Bool.{cond}
 use mathlib.Core.List.{List, []}
 use lib.Dec.{eqb}
+use Rattle.words.specs.Refusals.{NO-ROOM}
 use Rattle.words.specs.declared.Refusal.{Refusal}
 
 -- "A refusal returns its number, the position of the list, bin, cell or record at fault .. and, from the walk, the lists read so
@@ -18,14 +19,17 @@ pub data Paper (A : Type 0) : Type 0 where
   success : A → Paper A
   refused : Told → Paper A
 
+-- all that a refusal tells, in the order of the fields: the one place where it is put together
+abbrev pub tell : ℕ → ℕ → ℕ → ℕ → ℕ → Told
+tell n p lists places entries = record { number = n; position = p; lists = lists; places = places; entries = entries }
+
 -- a refusal that tells its number and its position, with every other field 0
 abbrev pub by : ℕ → ℕ → Told
-by n p = record { number = n; position = p; lists = 0; places = 0; entries = 0 }
+by n p = tell n p 0 0 0
 
--- document 01's number of an answer: 0 for a success
-abbrev pub numberOf : {A : Type 0} → Paper A → ℕ
-numberOf (success v) = 0
-numberOf (refused t) = t .number
+-- NO ROOM, at position 0: the lists read, the places needed, the entries
+abbrev pub noRoom : ℕ → ℕ → ℕ → Told
+noRoom lists places entries = tell NO-ROOM 0 lists places entries
 
 -- what the code's record of a refusal tells
 abbrev pub told : Refusal → Told
@@ -37,6 +41,9 @@ told f = by (f .number) (f .position)
 unfoldable pub checked : {A : Type 0} → ℕ → ℕ → A → Paper A
 checked n p v = cond (eqb n 0) (success v) (refused (by n p))
 
--- a part of the image, or the empty part
+-- a part of the image, or the empty part; and where it starts, which is the image's start for the empty part
 unfoldable pub handed : ℕ → List ℕ → List ℕ
 handed n part = cond (eqb n 0) part []
+
+unfoldable pub handedAt : ℕ → ℕ → ℕ
+handedAt n at = cond (eqb n 0) at 0

@@ -5,6 +5,7 @@ ghost use Prim.Native.Nat.{_+_, _-_, _*_};
 ghost use lib.ListN.{length, take, drop};
 ghost use lib.IntN.{natAbs};
 ghost use Rattle.words.specs.Refusals.{numbers};
+ghost use Rattle.words.specs.Parts.{Part, startOf};
 ghost use Rattle.words.specs.Words.{byteAt, word16, word32, word64, signed, aboveZero};
 
 // Document 01's table of refusals, by name.
@@ -77,14 +78,15 @@ fn starts(s: &[u8], more: usize) -> usize
     if more < s.len() { s.len() - more } else { 0 }
 }
 
-// The number of two bytes, of four and of eight, the lowest first.
+// The number of two bytes, of four and of eight, the lowest first. Four are public, for a loop behind a check that has been made:
+// it reads bytes by plain indexes.
 fn join2(a: u8, b: u8) -> u16
     ensures { λ r. ⌜ r ≡ a + 256 * b ⌝ }
 {
     (a as u16) + 256 * (b as u16)
 }
 
-fn join4(a: u8, b: u8, c: u8, d: u8) -> u32
+pub fn join4(a: u8, b: u8, c: u8, d: u8) -> u32
     ensures { λ r. ⌜ r ≡ a + 256 * b + 65536 * c + 16777216 * d ⌝ }
 {
     (a as u32) + 256 * (b as u32) + 65536 * (c as u32) + 16777216 * (d as u32)
@@ -181,19 +183,20 @@ pub fn above_zero(z: i32) -> u32
     if z < 0 { 0 } else { z as u32 }
 }
 
-// What of `s` stands from a position on: nothing past the end.
+// What of `s` stands from a position on: nothing, at the end of `s`, past the end.
 pub fn from(s: &[u8], at: usize) -> &[u8]
-    ensures { λ r. ⌜ now r ≡ drop at (now (s .entry)) ⌝ }
+    ensures { λ r. ⌜ Part (s .entry) r (startOf (now (s .entry)) at) (drop at (now (s .entry))) ⌝ }
 {
-    if s.len() <= at { &s[..0] } else { &s[at..] }
+    let end = s.len();
+    if end <= at { &s[end..] } else { &s[at..] }
 }
 
 // The part of `s` from a position on, for a length, or as much of it as is there.
 pub fn part(s: &[u8], at: usize, n: usize) -> &[u8]
-    ensures { λ r. ⌜ now r ≡ take n (drop at (now (s .entry))) ⌝ }
+    ensures { λ r. ⌜ Part (s .entry) r (startOf (now (s .entry)) at) (take n (drop at (now (s .entry)))) ⌝ }
 {
     if s.len() <= at {
-        return &s[..0];
+        return &s[s.len()..];
     }
     if n <= s.len() - at {
         &s[at..at + n]

@@ -1,6 +1,7 @@
-use mathlib.Core.Path.{sym, _∙_}
-use Rattle.words.proofs.Papers.{handed-good, handed-bad}
-use Rattle.cell_key_node.specs.Key.{keySlack, keyFault}
+use mathlib.Core.Path.{refl, sym, _∙_}
+use Rattle.words.proofs.Parts.{handed-part, handed-none}
+use Rattle.cell_key_node.specs.Key.{keySlack, keySlackAt, keyFault}
+use Rattle.cell_key_node.proofs.Places.{slack-placed}
 use borrow.Author.Needs.{needs}
 use Rattle.cell_key_node.proofs.key_slack.Statement.{statement}
 use Rattle.cell_key_node.proofs.key_slack.Tie as tie
@@ -39,18 +40,30 @@ add-end c = search needs
 from-requires-2 : tie.Need-from-requires-2
 from-requires-2 c κs = search needs
 
-slice-aggregate-result : tie.Need-slice-aggregate-result
-slice-aggregate-result c = search needs
+sub-result : tie.Need-sub-result
+sub-result c = search needs
+
+part-result-start : tie.Need-part-result-start
+part-result-start c = search needs
+
+part-result-end : tie.Need-part-result-end
+part-result-end c = search needs
 
 returns : tie.Need-returns
-unfolding keySlack keyFault
+unfolding keySlack keySlackAt keyFault
 returns c =
-    rw (c .before .u16-at .ensures, c .before .before .part .ensures, c .before .before .before .size-of .ensures, c .before .before .before .before .from .ensures) at (c .from2 .ensures)
-    ∙ sym (handed-good _ _ (sym (c .before .before .before .before .before .before .record-fault .ensures) ∙ c .before .before .before .before .before .if1 .taken))
+    let f = sym (c .before .before .before .before .before .before .record-fault .ensures) ∙ c .before .before .before .before .before .if1 .taken in
+    let a = c .before .before .before .before .before .before .before .before .args in
+    handed-part f
+    (slack-placed (a .position) 80 0x6B6E 76 (c .before .before .before .before .from .ensures) f
+    (c .before .before .before .size-of .ensures)
+    (c .before .u16-at .ensures)
+    (c .before .before .part .ensures)
+    (c .from2 .ensures))
 
 returns-2 : tie.Need-returns-2
-unfolding keySlack keyFault
-returns-2 c = sym (handed-bad _ _ (λ e. c .before .if1 .left (c .before .before .record-fault .ensures ∙ e)))
+unfolding keySlack keySlackAt keyFault
+returns-2 c = handed-none _ _ _ (λ e. c .before .if1 .left (c .before .before .record-fault .ensures ∙ e)) (record { bytes = refl; place = refl })
 
 pub key-slack-spec : {M : Type 1} → statement M
 key-slack-spec =
@@ -65,6 +78,8 @@ key-slack-spec =
     cast-name
     add-end
     from-requires-2
-    slice-aggregate-result
+    sub-result
+    part-result-start
+    part-result-end
     returns
     returns-2)

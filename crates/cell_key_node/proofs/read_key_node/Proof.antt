@@ -25,7 +25,7 @@ returns : tie.Need-returns
 unfolding keyAt keyFault
 returns c =
     let a = c .before .before .before .before .before .args in
-    ap success (c .key-in .ensures ∙ ap keyOf (c .before .from .ensures))
+    ap success (c .key-in .ensures ∙ ap keyOf (c .before .from .ensures .bytes))
     ∙ sym (checked-good _ (a .position) _ (sym (c .before .before .before .record-fault .ensures) ∙ c .before .before .if1 .taken))
 
 returns-2 : tie.Need-returns-2

@@ -20,7 +20,7 @@ cell-fault-requires c κs = search needs
 
 returns-2 : tie.Need-returns-2
 unfolding faultAt
-returns-2 c = simp (le-ltb _ _ (c .before .before .if1 .left), ← c .before .from .ensures) (c .cell-fault .ensures)
+returns-2 c = simp (le-ltb _ _ (c .before .before .if1 .left), ← c .before .from .ensures .bytes) (c .cell-fault .ensures)
 
 pub record-fault-spec : {M : Type 1} → statement M
 record-fault-spec = tie.close (tie.spec returns from-requires cell-fault-requires returns-2)

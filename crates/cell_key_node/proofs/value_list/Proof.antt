@@ -49,7 +49,7 @@ returns-4 c =
     let a = c .before .before .before .before .before .before .before .before .before .before .before .before .before .args in
     let v = rw (back (a .offset) (c .before .before .before .before .before .before .before .before .before .before .before .before .before .fits .offset)) at (c .before .before .before .before .before .before .before .before .before .value-list-place .ensures) in
     listed (a .image .now) (a .base) (a .count) (a .offset) (a .out .now) (c .before .before .before .before .before .before .before .before .before .before .if1 .left) _ _ (sym v ∙ ap placePaper (c .before .before .before .before .before .before .before .position .given .1)) (c .before .before .before .before .before .if2 .left)
-    (rw (c .before .before .before .before .from .ensures) at (c .before .before .fill-entries .ensures))
+    (rw (c .before .before .before .before .from .ensures .bytes) at (c .before .before .fill-entries .ensures))
 
 pub value-list-spec : {M : Type 1} → statement M
 value-list-spec =

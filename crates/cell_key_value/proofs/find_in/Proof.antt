@@ -80,7 +80,7 @@ returns-2 c =
     let l = c .before .before .before .before .before .before .before .before .before .loop in
     let e = sym (c .before .before .before .before .before .before .read-key-value .ensures) ∙ ap valuePaper (c .before .before .before .before .answer .given .1) in
     sym (match (a .image .now) (a .base) (a .name .now) (entryOf (a .list .now)) (a .count) (l .i) (c .before .before .before .before .before .before .before .before .loop-test .taken) (c .before .before .before .before .before .before .before .u32-at .result) (c .before .before .before .before .before .before .before .u32-at .ensures) _ e
-    (rw (← c .before .before .value-name .ensures) (sym (c .before .name-matches .ensures) ∙ c .if1 .taken)))
+    (rw (← c .before .before .value-name .ensures .bytes) (sym (c .before .name-matches .ensures) ∙ c .if1 .taken)))
     ∙ l .inv .1
 
 add-i : tie.Need-add-i Inv-loop μ-loop
@@ -97,7 +97,7 @@ loop-again c =
     let e = sym (c .before .before .before .before .before .before .read-key-value .ensures) ∙ ap valuePaper (c .before .before .before .before .answer .given .1) in (
       search needs,
       sym (no-match (a .image .now) (a .base) (a .name .now) (entryOf (a .list .now)) (a .count) (l .i) (c .before .before .before .before .before .before .before .before .loop-test .taken) (c .before .before .before .before .before .before .before .u32-at .result) (c .before .before .before .before .before .before .before .u32-at .ensures) _ e
-          (rw (← c .before .before .value-name .ensures) (sym (c .before .name-matches .ensures) ∙ c .if1 .left)))
+          (rw (← c .before .before .value-name .ensures .bytes) (sym (c .before .name-matches .ensures) ∙ c .if1 .left)))
           ∙ l .inv .1,
     )
 

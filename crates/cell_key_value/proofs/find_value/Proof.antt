@@ -36,7 +36,7 @@ unfolding lookupOf
 returns-2 c =
     let a = c .before .before .before .before .before .before .before .before .before .args in
     let v = rw (back (a .offset) (c .before .before .before .before .before .before .before .before .before .fits .offset)) at (c .before .before .before .before .before .value-list-place .ensures) in
-    simp (ne-eqb _ _ (c .before .before .before .before .before .before .if1 .left), sym v ∙ ap placePaper (c .before .before .before .place .given .1), ← c .before .from .ensures) (c .find-in .ensures)
+    simp (ne-eqb _ _ (c .before .before .before .before .before .before .if1 .left), sym v ∙ ap placePaper (c .before .before .before .place .given .1), ← c .before .from .ensures .bytes) (c .find-in .ensures)
 
 returns-3 : tie.Need-returns-3
 unfolding lookupOf

@@ -25,7 +25,7 @@ returns : tie.Need-returns
 unfolding valueAt
 returns c =
     let a = c .before .before .before .before .before .args in
-    ap success (c .value-in .ensures ∙ ap valueOf (c .before .from .ensures))
+    ap success (c .value-in .ensures ∙ ap valueOf (c .before .from .ensures .bytes))
     ∙ sym (checked-good _ (a .position) _ (sym (c .before .before .before .value-fault .ensures) ∙ c .before .before .if1 .taken))
 
 returns-2 : tie.Need-returns-2

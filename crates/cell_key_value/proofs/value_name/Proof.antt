@@ -1,6 +1,7 @@
-use mathlib.Core.Path.{sym, _∙_}
-use Rattle.words.proofs.Papers.{handed-good, handed-bad}
-use Rattle.cell_key_value.specs.Value.{valueName}
+use mathlib.Core.Path.{refl, sym, _∙_}
+use Rattle.words.proofs.Parts.{handed-part, handed-none}
+use Rattle.cell_key_node.proofs.Places.{name-placed}
+use Rattle.cell_key_value.specs.Value.{valueName, valueNameAt, valueFault}
 use borrow.Author.Needs.{needs}
 use Rattle.cell_key_value.proofs.value_name.Statement.{statement}
 use Rattle.cell_key_value.proofs.value_name.Tie as tie
@@ -26,18 +27,25 @@ cast-size c = search needs
 part-requires : tie.Need-part-requires
 part-requires c κs = search needs
 
-slice-aggregate-result : tie.Need-slice-aggregate-result
-slice-aggregate-result c = search needs
+sub-result : tie.Need-sub-result
+sub-result c = search needs
+
+part-result-start : tie.Need-part-result-start
+part-result-start c = search needs
+
+part-result-end : tie.Need-part-result-end
+part-result-end c = search needs
 
 returns : tie.Need-returns
-unfolding valueName
+unfolding valueName valueNameAt valueFault
 returns c =
-    rw (c .before .u16-at .ensures, c .before .before .from .ensures) at (c .part .ensures)
-    ∙ sym (handed-good _ _ (sym (c .before .before .before .before .value-fault .ensures) ∙ c .before .before .before .if1 .taken))
+    let f = sym (c .before .before .before .before .value-fault .ensures) ∙ c .before .before .before .if1 .taken in
+    let a = c .before .before .before .before .before .before .args in
+    handed-part f (name-placed (a .position) 24 0x6B76 6 (c .before .before .from .ensures) f (c .before .u16-at .ensures) (c .part .ensures))
 
 returns-2 : tie.Need-returns-2
-unfolding valueName
-returns-2 c = sym (handed-bad _ _ (λ e. c .before .if1 .left (c .before .before .value-fault .ensures ∙ e)))
+unfolding valueName valueNameAt valueFault
+returns-2 c = handed-none _ _ _ (λ e. c .before .if1 .left (c .before .before .value-fault .ensures ∙ e)) (record { bytes = refl; place = refl })
 
 pub value-name-spec : {M : Type 1} → statement M
 value-name-spec =
@@ -48,6 +56,8 @@ value-name-spec =
     u16-at-requires
     cast-size
     part-requires
-    slice-aggregate-result
+    sub-result
+    part-result-start
+    part-result-end
     returns
     returns-2)

@@ -31,20 +31,20 @@ add-position : tie.Need-add-position
 add-position c =
     let p = c .before .before .before .before .before in
     let a = p .before .before .before .args in
-    let l = of-place (now (a .image)) (a .base) (a .size) (p .before .if1 .left) _ (p .part .ensures) _ (c .before .before .before .before .check-row .ensures) (c .before .before .refusal .given .1) in
+    let l = of-place (now (a .image)) (a .base) (a .size) (p .before .if1 .left) _ (p .part .ensures .bytes) _ (c .before .before .before .before .check-row .ensures) (c .before .before .refusal .given .1) in
     omega arith
 
 returns-2 : tie.Need-returns-2
 returns-2 c =
     let p = c .before .before .before .before in
     let a = p .before .before .before .args in
-    of-totals (now (a .image)) (a .base) (a .size) (p .before .if1 .left) _ (p .part .ensures) _ (c .before .before .before .check-row .ensures) (c .before .totals .given .1)
+    of-totals (now (a .image)) (a .base) (a .size) (p .before .if1 .left) _ (p .part .ensures .bytes) _ (c .before .before .before .check-row .ensures) (c .before .totals .given .1)
 
 returns-3 : tie.Need-returns-3
 returns-3 c =
     let p = c .before .before .before .before .before in
     let a = p .before .before .before .args in
-    of-refusal (now (a .image)) (a .base) (a .size) (p .before .if1 .left) _ (p .part .ensures) _ (c .before .before .before .before .check-row .ensures) (c .before .before .refusal .given .1)
+    of-refusal (now (a .image)) (a .base) (a .size) (p .before .if1 .left) _ (p .part .ensures .bytes) _ (c .before .before .before .before .check-row .ensures) (c .before .before .refusal .given .1)
 
 pub check-bins-spec : {M : Type 1} → statement M
 check-bins-spec =

@@ -22,7 +22,7 @@ cast-result : tie.Need-cast-result
 cast-result c = search needs
 
 returns : tie.Need-returns
-returns c = simp (c .before .before .if1 .taken) (rw (c .before .from .ensures) at (c .u16-at .ensures) ∙ unit-at _ _)
+returns c = simp (c .before .before .if1 .taken) (rw (c .before .from .ensures .bytes) at (c .u16-at .ensures) ∙ unit-at _ _)
 
 returns-2 : tie.Need-returns-2
 returns-2 c = simp (c .before .if1 .left) (c .byte-at .ensures)

@@ -19,27 +19,28 @@ module _ (s : List ℕ) (p : ℕ) where
   unfolding listAt
   list-outside h = simp (lt-ltb _ _ h)
 
-  module _ (h : p ≤ length s) where
-    pub list-cut : length s - p < 8 → refused (by CUT-SHORT p) ≡ listAt s p
+  -- the position is in the image, and so many bytes stand from it on
+  module _ (h : p ≤ length s) {left : ℕ} (q : left ≡ length s - p) where
+    pub list-cut : left < 8 → refused (by CUT-SHORT p) ≡ listAt s p
     unfolding listAt
-    list-cut k = simp (le-ltb _ _ h, lt-ltb _ _ k)
+    list-cut k = simp (le-ltb _ _ h, ← q, lt-ltb _ _ k)
 
     -- the header is there: its kind, the bytes an entry, and its count
-    module _ (k : 8 ≤ length s - p) {kind count size : ℕ} (e : kind ≡ kindAt s p) (f : count ≡ countAt s p) (g : size ≡ entrySize kind) where
+    module _ (k : 8 ≤ left) {kind count size : ℕ} (e : kind ≡ kindAt s p) (f : count ≡ countAt s p) (g : size ≡ entrySize kind) where
       pub list-unknown : size ≡ 0 → refused (by BAD-SIGN p) ≡ listAt s p
       unfolding listAt
-      list-unknown z = simp (le-ltb _ _ h, le-ltb _ _ k, ← e, ← g, eq-eqb _ _ z)
+      list-unknown z = simp (le-ltb _ _ h, ← q, le-ltb _ _ k, ← e, ← g, eq-eqb _ _ z)
 
       module _ (z : size ≡ 0 → ⊥) where
-        pub list-passes : length s - p - 8 < size * count → refused (by CUT-SHORT p) ≡ listAt s p
+        pub list-passes : left - 8 < size * count → refused (by CUT-SHORT p) ≡ listAt s p
         unfolding listAt
-        list-passes l = simp (le-ltb _ _ h, le-ltb _ _ k, ← e, ← f, ← g, ne-eqb _ _ z, lt-ltb _ _ l)
+        list-passes l = simp (le-ltb _ _ h, ← q, le-ltb _ _ k, ← e, ← f, ← g, ne-eqb _ _ z, lt-ltb _ _ l)
 
-        module _ (l : size * count ≤ length s - p - 8) where
+        module _ (l : size * count ≤ left - 8) where
           pub list-index : kind ≡ RI → success (index count) ≡ listAt s p
           unfolding listAt ofKind
-          list-index i = simp (le-ltb _ _ h, le-ltb _ _ k, ← e, ← f, ← g, ne-eqb _ _ z, le-ltb _ _ l, eq-eqb _ _ i)
+          list-index i = simp (le-ltb _ _ h, ← q, le-ltb _ _ k, ← e, ← f, ← g, ne-eqb _ _ z, le-ltb _ _ l, eq-eqb _ _ i)
 
           pub list-leaf : (kind ≡ RI → ⊥) → success (leaf kind size count) ≡ listAt s p
           unfolding listAt ofKind
-          list-leaf i = simp (le-ltb _ _ h, le-ltb _ _ k, ← e, ← f, ← g, ne-eqb _ _ z, le-ltb _ _ l, ne-eqb _ _ i)
+          list-leaf i = simp (le-ltb _ _ h, ← q, le-ltb _ _ k, ← e, ← f, ← g, ne-eqb _ _ z, le-ltb _ _ l, ne-eqb _ _ i)

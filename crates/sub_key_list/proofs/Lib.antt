@@ -2,3 +2,4 @@
 pub mod Cases
 pub mod Leaves
 pub mod Papers
+pub mod SizeWord

@@ -5,10 +5,9 @@ use mathlib.Core.List.{List}
 use Prim.Native.Nat.{ℕ}
 use native.Mathlib.Omega.{arith}
 use Rattle.words.proofs.Papers.{success-refused, same-success, same-told, same-refusal}
-use Rattle.sub_key_list.specs.Lists.{leaf, index, listPaper, listAt, LeafAnswered}
+use Rattle.sub_key_list.specs.Lists.{leaf, index, listPaper, listAt}
 use Rattle.sub_key_list.specs.declared.LeafList.{LeafList}
 use Rattle.sub_key_list.specs.declared.IndexList.{IndexList}
-use Rattle.sub_key_list.specs.declared.LeafRead.{LeafRead}
 use Rattle.sub_key_list.specs.declared.SubKeyList.{SubKeyList}
 use Rattle.sub_key_list.specs.declared.SubKeyList.the-variants.{Leaf, Index, Refused}
 
@@ -41,8 +40,3 @@ paper-injective (Refused f) (Refused g) e = ap Refused (same-refusal (same-told 
 -- two answers allowed for one image and position
 pub list-determined : (s : List ℕ) (p : ℕ) (a b : SubKeyList) → listPaper a ≡ listAt s p → listPaper b ≡ listAt s p → a ≡ b
 list-determined s p a b x y = paper-injective a b (x ∙ sym y)
-
--- and two answers with their buffers allowed for one leaf list
-pub leaf-determined : {s : List ℕ} {base offset : ℕ} {l : LeafList} {old : List ℕ} {place : ℕ} {r r′ : LeafRead} {new new′ : List ℕ}
-    → LeafAnswered s base offset l old place r new → LeafAnswered s base offset l old place r′ new′ → (r ≡ r′) × (new ≡ new′)
-leaf-determined x y = (x .answer ∙ sym (y .answer), x .buffer ∙ sym (y .buffer))

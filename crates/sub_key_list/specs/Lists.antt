@@ -1,16 +1,13 @@
 -- One subkey list in an image, from document 01, "The subkey walk".
-use Prim.Native.Nat.{ℕ, zero, suc, _+_, _-_, _*_}
+use Prim.Native.Nat.{ℕ, _+_, _-_, _*_, _≤_}
 use mathlib.Core.Path.{_≡_}
-use mathlib.Core.List.{List, [], _∷_}
+use mathlib.Core.List.{List}
 use mathlib.Core.Bool.{cond}
 use lib.Dec.{ltb, eqb}
 use lib.ListN.{length}
-use lib.Seq.{sets}
-use Rattle.words.specs.Words.{word16, word32}
+use Rattle.words.specs.Words.{byteAt, word16}
 use Rattle.words.specs.Refusals.{OUTSIDE, BAD-SIGN, CUT-SHORT}
 use Rattle.words.specs.Paper.{Paper, success, refused, by, told}
-use Rattle.sub_key_list.specs.declared.LeafList.{LeafList}
-use Rattle.sub_key_list.specs.declared.LeafRead.{LeafRead}
 use Rattle.sub_key_list.specs.declared.SubKeyList.{SubKeyList}
 use Rattle.sub_key_list.specs.declared.SubKeyList.the-variants.{Leaf, Index, Refused}
 
@@ -65,39 +62,13 @@ listAt s p =
     (cond (ltb (length s - p - 8) (entrySize (kindAt s p) * countAt s p)) (refused (by CUT-SHORT p))
     (success (ofKind (kindAt s p) (countAt s p))))))
 
+-- two images of one length that agree from byte 4 of the list at `p` on: the size word, its bytes 0 to 3, may differ
+pub record SameBehind (s t : List ℕ) (p : ℕ) : Type 0 where
+  pub length : length s ≡ length t
+  pub bytes : (i : ℕ) → p + 4 ≤ i → byteAt s i ≡ byteAt t i
+
 -- what document 01 says of the code's answer
 abbrev pub listPaper : SubKeyList → Paper Listed
 listPaper (Leaf l) = success (leaf (l .signature) (l .«entry_size») (l .count))
 listPaper (Index l) = success (index (l .count))
 listPaper (Refused f) = refused (told f)
-
--- ---- the entries of a leaf list, over their size
-
--- "A leaf entry whose offset plus base is 4,294,967,296 or more is dropped; others are kept as that sum."
-unfoldable pub keep : ℕ → List ℕ → List ℕ
-keep v ks = cond (ltb v 4294967296) (v ∷ ks) ks
-
--- the offsets kept of `left` entries of `size` bytes each, the first at `pos`
-unfoldable pub leafKept : List ℕ → ℕ → ℕ → ℕ → ℕ → List ℕ
-leafKept s base size zero pos = []
-leafKept s base size (suc left) pos = keep (word32 s pos + base) (leafKept s base size left (pos + size))
-
--- the offsets kept of the leaf list at an offset: "entries at 8"
-abbrev pub keptAt : List ℕ → ℕ → ℕ → LeafList → List ℕ
-keptAt s base offset l = leafKept s base (l .«entry_size») (l .count) (offset + base + 8)
-
--- ---- what is promised of the entries of a leaf list
-
--- `ks` is written from a place on, as far as there is room, and `r` counts them on from `n`
-pub record Put (old : List ℕ) (place : ℕ) (ks : List ℕ) (n r : ℕ) (new : List ℕ) : Type 0 where
-  pub counted : r ≡ n + length ks
-  pub written : new ≡ sets old place ks
-
--- "offsets kept .. and leaf entries, dropped ones included"
-abbrev pub leafCounts : List ℕ → ℕ → LeafRead
-leafCounts ks n = record { kept = length ks; entries = n }
-
--- the counts, and the buffer: the offsets kept from a place on, as far as there is room, and every other place as it was
-pub record LeafAnswered (s : List ℕ) (base offset : ℕ) (l : LeafList) (old : List ℕ) (place : ℕ) (r : LeafRead) (new : List ℕ) : Type 0 where
-  pub answer : r ≡ leafCounts (keptAt s base offset l) (l .count)
-  pub buffer : new ≡ sets old place (keptAt s base offset l)

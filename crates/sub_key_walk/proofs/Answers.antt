@@ -1,28 +1,50 @@
--- The answers of the walk from a key record, each from what its code has found. Assumes nothing.
+-- The answers of the walk from a key record and of one leaf list, each from what its code has found. Assumes nothing.
 use mathlib.Core.Path.{_≡_, refl, ap, sym, _∙_}
 use mathlib.Core.List.{List, [], _∷_, _++_}
+use mathlib.Core.Bool.{Bool, true, false}
 use Prim.Native.Nat.{ℕ, _+_, _≤_, _<_}
 use native.Mathlib.Nat.{zero-add}
 use native.Mathlib.Omega.{arith}
-use borrow.Author.Tests.{eq-eqb, ne-eqb, lt-ltb, le-ltb}
+use borrow.Author.Tests.{eq-eqb, ne-eqb, lt-ltb, le-ltb, eqb-true}
+use lib.Dec.{ltb, eqb}
 use lib.ListN.{length, drop}
 use lib.Seq.{sets, sets-eq}
-use Rattle.words.specs.Refusals.{TOO-MANY, BAD-BUDGET}
-use Rattle.words.specs.Paper.{Paper, success, refused, by}
-use Rattle.sub_key_walk.specs.Trace.{walkFrom, keptOf}
-use Rattle.sub_key_walk.specs.Judge.{judge}
-use Rattle.sub_key_walk.specs.Answers.{BUDGET-LIMIT, COUNT-LIMIT, none, noRoom, inRoom, answerOf, keptBy, bufferAfter, walkTold, walkPaper, Answered}
-use Rattle.sub_key_walk.specs.Walk.{Walk}
+use Rattle.words.specs.Refusals.{TOO-MANY, BAD-BUDGET, BAD-SIGN}
+use Rattle.words.specs.Paper.{Told, Paper, success, refused, by, tell, noRoom, told, onSuccess}
+use Rattle.words.specs.Buffers.{inRoom, Answered}
+use Rattle.words.specs.declared.Refusal.{Refusal}
+use Rattle.words.proofs.Papers.{success-refused, same-success}
+use Rattle.words.proofs.Buffers.{room-full, room-fits, room-refused, answered-refused, answered-success}
+use Rattle.sub_key_list.specs.Lists.{listAt, listPaper}
+use Rattle.sub_key_list.specs.Leaves.{leafOf, leafKept, onlyLeaf, leafAt}
+use Rattle.sub_key_list.specs.declared.LeafList.{LeafList}
+use Rattle.sub_key_list.specs.declared.IndexList.{IndexList}
+use Rattle.sub_key_list.specs.declared.SubKeyList.the-variants as found
+use Rattle.sub_key_list.proofs.Leaves.{leaf-all}
+use Rattle.sub_key_walk.specs.Trace.{walkFrom, keptOf, entriesOf}
+use Rattle.sub_key_walk.specs.Judge.{fault, judge}
+use Rattle.sub_key_walk.specs.Answers.{BUDGET-LIMIT, COUNT-LIMIT, none, measured, fullOf, answerOf, keptBy, walkTold, walkPaper, WalkAnswered}
+use Rattle.sub_key_walk.specs.Leaf.{readOf, fullLeaf, leafAnswerOf, keptFrom, leafPaper, LeafAnswered}
+use Rattle.sub_key_walk.specs.Walk.{Whole, Filled, Roomy}
 use Rattle.sub_key_walk.specs.declared.Counts.{Counts}
 use Rattle.sub_key_walk.specs.declared.WalkRefusal.{WalkRefusal}
 use Rattle.sub_key_walk.specs.declared.WalkAnswer.{WalkAnswer}
 use Rattle.sub_key_walk.specs.declared.WalkAnswer.the-variants.{Read, Refused}
-use Rattle.sub_key_walk.proofs.Papers.{paper-read}
-use Rattle.sub_key_walk.proofs.Walks.{judge-kept, walk-success}
+use Rattle.sub_key_walk.specs.declared.LeafRead.{LeafRead}
+use Rattle.sub_key_walk.specs.declared.LeafAnswer.{LeafAnswer}
+use Rattle.sub_key_walk.specs.declared.LeafAnswer.the-variants as leaf
+use Rattle.sub_key_walk.proofs.Judged.{judge-tally}
+use Rattle.sub_key_walk.proofs.Fills.{nothing-dropped}
 
--- all stores from the first place on
-sets-front : (ks old : List ℕ) → length ks ≤ length old → sets old 0 ks ≡ ks ++ drop (length ks) old
-sets-front ks old h = sets-eq ks old 0 (omega arith) ∙ ap (λ (n : ℕ). ks ++ drop n old) (zero-add (length ks))
+-- a row that is written from the first place on
+front-filled : (ks old : List ℕ) {r : ℕ} {new : List ℕ} → Filled ks old 0 r new → length ks ≤ length old → new ≡ ks ++ drop (length ks) old
+front-filled ks old f h = f .written ∙ sets-eq ks old 0 (omega arith) ∙ ap (λ (n : ℕ). ks ++ drop n old) (zero-add (length ks))
+
+no-row : (ks : List ℕ) → length ks ≡ 0 → ks ≡ []
+no-row [] h = refl
+no-row (k ∷ ks) h = absurd (let z : ⊥ = omega arith in z)
+
+-- ---- the walk without regard to room
 
 -- the tests in front of the walk are passed
 pub record Started (count budget : ℕ) : Type 0 where
@@ -30,64 +52,134 @@ pub record Started (count budget : ℕ) : Type 0 where
   pub few : count ≤ COUNT-LIMIT
   pub some : count ≡ 0 → ⊥
 
-module _ {s : List ℕ} {base count list budget : ℕ} {old : List ℕ} where
-  -- an answer with its buffer, by what document 01 says of it
-  answered : {r : WalkAnswer} {new : List ℕ} (a : Paper Counts) → walkPaper r ≡ a → a ≡ answerOf s base count list budget (length old)
-      → new ≡ bufferAfter a (keptBy s base count list) old → Answered s base count list budget old r new
-  answered a p e w = record { answer = p ∙ e; buffer = w ∙ ap (λ (x : Paper Counts). bufferAfter x (keptBy s base count list) old) e }
+module _ (s : List ℕ) (base count list budget : ℕ) where
+  pub measured-budget : BUDGET-LIMIT < budget → refused (by BAD-BUDGET 0) ≡ measured s base count list budget
+  unfolding measured
+  measured-budget h = rw (lt-ltb BUDGET-LIMIT budget h)
 
-  pub answered-budget : {r : WalkAnswer} → walkPaper r ≡ refused (by BAD-BUDGET 0) → BUDGET-LIMIT < budget → Answered s base count list budget old r old
-  unfolding answerOf bufferAfter
-  answered-budget p h = answered (refused (by BAD-BUDGET 0)) p (rw (lt-ltb BUDGET-LIMIT budget h)) refl
+  pub measured-many : budget ≤ BUDGET-LIMIT → COUNT-LIMIT < count → refused (by TOO-MANY 0) ≡ measured s base count list budget
+  unfolding measured
+  measured-many b h = rw (le-ltb BUDGET-LIMIT budget b, lt-ltb COUNT-LIMIT count h)
 
-  pub answered-many : {r : WalkAnswer} → walkPaper r ≡ refused (by TOO-MANY 0) → budget ≤ BUDGET-LIMIT → COUNT-LIMIT < count → Answered s base count list budget old r old
-  unfolding answerOf bufferAfter
-  answered-many p b h = answered (refused (by TOO-MANY 0)) p (rw (le-ltb BUDGET-LIMIT budget b, lt-ltb COUNT-LIMIT count h)) refl
+  pub measured-none : budget ≤ BUDGET-LIMIT → count ≤ COUNT-LIMIT → count ≡ 0 → success none ≡ measured s base count list budget
+  unfolding measured
+  measured-none b m h = rw (le-ltb BUDGET-LIMIT budget b, le-ltb COUNT-LIMIT count m, eq-eqb count 0 h)
 
-  pub answered-none : budget ≤ BUDGET-LIMIT → count ≤ COUNT-LIMIT → count ≡ 0 → Answered s base count list budget old (Read none) old
-  unfolding answerOf keptBy bufferAfter
-  answered-none b m h = answered (success none) refl (rw (le-ltb BUDGET-LIMIT budget b, le-ltb COUNT-LIMIT count m, eq-eqb count 0 h)) (rw (eq-eqb count 0 h))
-
-pub answer-walk : (s : List ℕ) (base count list budget room : ℕ) → Started count budget
-    → answerOf s base count list budget room ≡ inRoom room (judge budget none (walkFrom s base list))
-unfolding answerOf
-answer-walk s base count list budget room d = rw (le-ltb BUDGET-LIMIT budget (d .small), le-ltb COUNT-LIMIT count (d .few), ne-eqb count 0 (d .some))
+  pub measured-walk : Started count budget → measured s base count list budget ≡ judge budget none (walkFrom s base list)
+  unfolding measured
+  measured-walk d = rw (le-ltb BUDGET-LIMIT budget (d .small), le-ltb COUNT-LIMIT count (d .few), ne-eqb count 0 (d .some))
 
 pub kept-walk : (s : List ℕ) (base count list : ℕ) → (count ≡ 0 → ⊥) → keptBy s base count list ≡ keptOf (walkFrom s base list)
 unfolding keptBy
 kept-walk s base count list h = rw (ne-eqb count 0 h)
 
--- what the walk gave, within the room
-in-room : (s : List ℕ) (base count list budget room : ℕ) → Started count budget → (a b : Paper Counts) → judge budget none (walkFrom s base list) ≡ a → inRoom room a ≡ b
-    → b ≡ answerOf s base count list budget room
-in-room s base count list budget room d a b q e = sym e ∙ ap (inRoom room) (sym q) ∙ sym (answer-walk s base count list budget room d)
+-- what a walk that is measured counts: the offsets that it keeps and, where there are some, the entries of its lists
+pub record Measured (s : List ℕ) (base count list : ℕ) (t : Counts) : Type 0 where
+  pub keeps : t .kept ≡ length (keptBy s base count list)
+  pub walked : 0 < t .kept → keptBy s base count list ≡ keptOf (walkFrom s base list)
+  pub entered : 0 < t .kept → t .entries ≡ entriesOf (walkFrom s base list)
 
--- a part with no places, and what stands behind it
-no-part : (part old : List ℕ) → length part ≡ 0 → part ++ old ≡ old
-no-part [] old h = refl
-no-part (x ∷ part) old h = absurd (let z : ⊥ = omega arith in z)
+pub what-measured : (s : List ℕ) (base count list budget : ℕ) (t : Counts) → measured s base count list budget ≡ success t → Measured s base count list t
+unfolding measured keptBy
+what-measured s base count list budget t q = go (ltb BUDGET-LIMIT budget) (ltb COUNT-LIMIT count) (eqb count 0) refl refl refl
+  where
+    go : (a b c : Bool) → ltb BUDGET-LIMIT budget ≡ a → ltb COUNT-LIMIT count ≡ b → eqb count 0 ≡ c → Measured s base count list t
+    go true b c x y z = absurd (success-refused (sym (rw x at q)))
+    go false true c x y z = absurd (success-refused (sym (rw (x, y) at q)))
+    go false false true x y z =
+        let e : none ≡ t = same-success (rw (x, y, z) at q) in
+        let k : 0 ≡ t .kept = ap (λ (u : Counts). u .kept) e in
+        record { keeps = rw z (sym k); walked = λ h. absurd (let w : ⊥ = omega arith in w); entered = λ h. absurd (let w : ⊥ = omega arith in w) }
+    go false false false x y z =
+        let e = judge-tally budget (walkFrom s base list) t (rw (x, y, z) at q) in
+        record {
+          keeps = rw z (ap (λ (u : Counts). u .kept) e ∙ zero-add _);
+          walked = λ h. rw z;
+          entered = λ h. ap (λ (u : Counts). u .entries) e ∙ zero-add _;
+        }
 
--- the measuring walk, over a part of the buffer that has no places: then the buffer holds what it held
-module _ {s : List ℕ} {base count list budget : ℕ} {old : List ℕ} (d : Started count budget) {o o′ : List ℕ} {w : WalkAnswer}
-    (k : Walk budget none (walkFrom s base list) o w o′) (empty : length o′ ≡ 0) where
-  pub answered-refused : {f : WalkRefusal} → w ≡ Refused f → Answered s base count list budget old (Refused f) (o′ ++ old)
-  unfolding inRoom bufferAfter
-  answered-refused {f} q =
-      answered (refused (walkTold f)) refl (in-room s base count list budget (length old) d (refused (walkTold f)) _ (sym (k .answer) ∙ ap walkPaper q) refl) (no-part o′ old empty)
+-- ---- and with it
 
-  pub answered-room : {t : Counts} → w ≡ Read t → length old < t .kept → {r : WalkAnswer} → walkPaper r ≡ refused (noRoom t) → Answered s base count list budget old r (o′ ++ old)
-  unfolding inRoom bufferAfter
-  answered-room {t} q f p =
-      answered (refused (noRoom t)) p (in-room s base count list budget (length old) d (success t) _ (walk-success k q) (rw (lt-ltb (length old) (t .kept) f))) (no-part o′ old empty)
+module _ (s : List ℕ) (base count list budget : ℕ) (old : List ℕ) (w : WalkAnswer) (k : walkPaper w ≡ measured s base count list budget) where
+  given : {a : Paper Counts} → walkPaper w ≡ a → answerOf s base count list budget (length old) ≡ inRoom fullOf (length old) a
+  given e = ap (inRoom fullOf (length old)) (sym k ∙ e)
 
-  -- the filling walk, over the whole buffer
-  pub answered-read : {t : Counts} → w ≡ Read t → t .kept ≤ length old → {v : WalkAnswer} {new : List ℕ} → Walk budget none (walkFrom s base list) (o′ ++ old) v new
-      → Answered s base count list budget old (Read t) new
-  unfolding inRoom bufferAfter
-  answered-read {t} q f {v} {new} z =
-      let ks : List ℕ = keptOf (walkFrom s base list) in
-      let n : t .kept ≡ 0 + length ks = judge-kept budget none (walkFrom s base list) t (walk-success k q) in
-      answered (success t) refl
-      (in-room s base count list budget (length old) d (success t) _ (walk-success k q) (rw (le-ltb (length old) (t .kept) f)))
-      (z .written t (paper-read v t (z .answer ∙ walk-success k q)) ∙ ap (λ (x : List ℕ). sets x 0 ks) (no-part o′ old empty) ∙ sets-front ks old (omega arith)
-      ∙ ap (λ (x : List ℕ). x ++ drop (length x) old) (sym (kept-walk s base count list (d .some))))
+  pub walk-refused : {f : WalkRefusal} → w ≡ Refused f → WalkAnswered s base count list budget old (Refused f) old
+  walk-refused {f} q = answered-refused refl (given (ap walkPaper q) ∙ room-refused fullOf (length old) (walkTold f))
+
+  module _ {t : Counts} (q : w ≡ Read t) where
+    pub walk-full : length old < t .kept → {f : WalkRefusal} → walkTold f ≡ noRoom (t .lists) (t .kept) (t .entries) → WalkAnswered s base count list budget old (Refused f) old
+    walk-full h e = answered-refused (ap refused e) (given (ap walkPaper q) ∙ room-full fullOf (length old) t h)
+
+    counted : Measured s base count list t
+    counted = what-measured s base count list budget t (sym k ∙ ap walkPaper q)
+
+    module _ (h : t .kept ≤ length old) where
+      fits : answerOf s base count list budget (length old) ≡ success t
+      fits = given (ap walkPaper q) ∙ room-fits fullOf (length old) t h
+
+      pub walk-empty : t .kept ≤ 0 → WalkAnswered s base count list budget old (Read t) old
+      walk-empty z =
+          let e = counted .keeps in
+          answered-success refl fits (ap (λ (ks : List ℕ). ks ++ drop (length ks) old) (sym (no-row (keptBy s base count list) (omega arith))))
+
+      module _ (some : 0 < t .kept) where
+        pub walk-roomy : {whole : Bool} → whole ≡ eqb (t .kept) (t .entries) → Roomy (walkFrom s base list) whole old 0
+        walk-roomy z =
+            let n : t .kept ≡ length (keptOf (walkFrom s base list)) = counted .keeps ∙ ap length (counted .walked some) in
+            let m : t .entries ≡ entriesOf (walkFrom s base list) = counted .entered some in
+            record {
+              room = omega arith;
+              all = λ e. let x : t .kept ≡ t .entries = eqb-true _ _ (sym z ∙ e) in nothing-dropped s base list (omega arith);
+            }
+
+        pub walk-filled : {r : ℕ} {new : List ℕ} → Filled (keptOf (walkFrom s base list)) old 0 r new → WalkAnswered s base count list budget old (Read t) new
+        walk-filled f =
+            let n : t .kept ≡ length (keptOf (walkFrom s base list)) = counted .keeps ∙ ap length (counted .walked some) in
+            answered-success refl fits
+            (front-filled (keptOf (walkFrom s base list)) old f (omega arith)
+            ∙ ap (λ (ks : List ℕ). ks ++ drop (length ks) old) (sym (counted .walked some)))
+
+-- ---- one leaf list
+
+module _ (s : List ℕ) (base p : ℕ) (old : List ℕ) where
+  pub leaf-refused : {g : Refusal} → listPaper (found.Refused g) ≡ listAt s p → {f : WalkRefusal} → walkTold f ≡ fault (g .number) (g .position) 0
+      → LeafAnswered s base p old (leaf.Refused f) old
+  unfolding inRoom onSuccess onlyLeaf
+  leaf-refused e q = answered-refused (ap refused q) (rw (← e))
+
+  pub leaf-index : {l : IndexList} → listPaper (found.Index l) ≡ listAt s p → {f : WalkRefusal} → walkTold f ≡ fault BAD-SIGN p 0 → LeafAnswered s base p old (leaf.Refused f) old
+  unfolding inRoom onSuccess onlyLeaf
+  leaf-index e q = answered-refused (ap refused q) (rw (← e))
+
+  module _ {l : LeafList} (e : listPaper (found.Leaf l) ≡ listAt s p) {t : LeafRead} (d : t ≡ readOf (leafOf s base p (l .«entry_size») (l .count))) where
+    abbrev row : List ℕ
+    row = leafKept s base (l .«entry_size») (l .count) (p + 8)
+
+    kept-row : t .kept ≡ length row
+    kept-row = ap (λ (c : LeafRead). c .kept) d
+
+    here : leafAnswerOf s base p (length old) ≡ inRoom fullLeaf (length old) (success t)
+    unfolding onSuccess onlyLeaf
+    here = rw (← e) (ap (λ (c : LeafRead). inRoom fullLeaf (length old) (success c)) (sym d))
+
+    pub leaf-full : length old < t .kept → {f : WalkRefusal} → walkTold f ≡ noRoom 0 (t .kept) (t .entries) → LeafAnswered s base p old (leaf.Refused f) old
+    leaf-full h q = answered-refused (ap refused q) (here ∙ room-full fullLeaf (length old) t h)
+
+    module _ (h : t .kept ≤ length old) where
+      pub leaf-roomy : 0 + length row ≤ length old
+      leaf-roomy = let k = kept-row in omega arith
+
+      pub leaf-whole : {whole : Bool} → whole ≡ eqb (t .kept) (t .entries) → Whole s base (l .«entry_size») (l .count) (p + 8) whole
+      leaf-whole z q =
+          let k = kept-row in
+          let n : t .entries ≡ l .count = ap (λ (c : LeafRead). c .entries) d in
+          let x : t .kept ≡ t .entries = eqb-true _ _ (sym z ∙ q) in
+          omega (arith, leaf-all s base (l .«entry_size») (l .count) (p + 8))
+
+      pub leaf-filled : {r : ℕ} {new : List ℕ} → Filled row old 0 r new → LeafAnswered s base p old (leaf.Read t) new
+      unfolding onlyLeaf keptFrom
+      leaf-filled f =
+          let k = kept-row in
+          answered-success refl (here ∙ room-fits fullLeaf (length old) t h)
+          (front-filled row old f (omega arith) ∙ rw (← e))

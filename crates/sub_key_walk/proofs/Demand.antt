@@ -5,22 +5,24 @@ use mathlib.Core.Bool.{Bool, true, false, cond}
 use Prim.Native.Nat.{ℕ, _+_, _*_, _≤_, min}
 use native.Mathlib.Nat.{zero-add}
 use native.Mathlib.Omega.{arith}
-use borrow.Author.Tests.{le-ltb, ltb-false}
 use lib.Dec.{ltb, eqb}
 use lib.ListN.{length, drop}
-use Rattle.words.specs.Paper.{Told, Paper, success, refused}
-use Rattle.words.proofs.Papers.{success-refused, same-success}
+use Rattle.words.specs.Paper.{Paper, success, refused}
+use Rattle.words.specs.Buffers.{inRoom}
+use Rattle.words.proofs.Papers.{same-success}
+use Rattle.words.proofs.Buffers.{room-fits, room-success, untouched, filled}
 use Rattle.sub_key_walk.specs.Trace.{Event, walkFrom, keptOf, listsOf, entriesOf}
 use Rattle.sub_key_walk.specs.Judge.{judge}
-use Rattle.sub_key_walk.specs.Answers.{BUDGET-LIMIT, COUNT-LIMIT, none, noRoom, inRoom, answerOf, bufferAfter, walkTold, walkPaper, Answered}
+use Rattle.sub_key_walk.specs.Answers.{BUDGET-LIMIT, COUNT-LIMIT, none, measured, fullOf, answerOf, walkPaper, WalkAnswered}
 use Rattle.sub_key_walk.specs.Free.{All, Met, countsOf, Full, front, listsRead, listsBy, Succeeds}
+use Rattle.sub_key_walk.specs.Demand.{Demand3}
 use Rattle.sub_key_walk.specs.declared.Counts.{Counts}
 use Rattle.sub_key_walk.specs.declared.WalkRefusal.{WalkRefusal}
 use Rattle.sub_key_walk.specs.declared.WalkAnswer.{WalkAnswer}
 use Rattle.sub_key_walk.specs.declared.WalkAnswer.the-variants.{Read, Refused}
 use Rattle.sub_key_walk.proofs.Walks.{counts-path}
 use Rattle.sub_key_walk.proofs.Papers.{paper-read}
-use Rattle.sub_key_walk.proofs.Answers.{Started, answer-walk, kept-walk}
+use Rattle.sub_key_walk.proofs.Answers.{Started, measured-walk, kept-walk}
 use Rattle.sub_key_walk.proofs.Judged.{tally, lists-all, judge-all, all-judge, judge-lists}
 use Rattle.sub_key_walk.proofs.Traces.{good-fine, fine-good, trace-dense}
 -- What document 01 says of an answer tells the answers apart, and two answers with their buffers that are allowed for one input
@@ -29,42 +31,32 @@ pub use Rattle.sub_key_walk.proofs.Papers.{paper-injective, answers-det
 
 -- ---- the room
 
-room-lists : (room : ℕ) (a : Paper Counts) → listsBy (inRoom room a) ≡ listsBy a
+room-lists : (room : ℕ) (a : Paper Counts) → listsBy (inRoom fullOf room a) ≡ listsBy a
 unfolding inRoom
 room-lists room (success t) = go (ltb room (t .kept))
   where
-    go : (b : Bool) → listsBy (cond b (refused (noRoom t)) (success t)) ≡ t .lists
+    go : (b : Bool) → listsBy (cond b (refused (fullOf t)) (success t)) ≡ t .lists
     go true = refl
     go false = refl
 room-lists room (refused t) = refl
 
--- an answer that succeeds has a whole walk behind it that fits the room
-room-success : (room : ℕ) (a : Paper Counts) (u : Counts) → inRoom room a ≡ success u → (a ≡ success u) × (u .kept ≤ room)
-unfolding inRoom
-room-success room (success t) u q = go (ltb room (t .kept)) refl q
-  where
-    go : (b : Bool) → ltb room (t .kept) ≡ b → cond b (refused (noRoom t)) (success t) ≡ success u → (success t ≡ success u) × (u .kept ≤ room)
-    go true x y = absurd (success-refused (sym y))
-    go false x y =
-        let m : t .kept ≤ room = ltb-false _ _ x in
-        (y, rw (same-success y) at m)
-room-success room (refused t) u q = absurd (success-refused (sym q))
-
 -- ---- "Its reported number of lists is the definition's, refused or not": for every input
 
-pub lists-reported : (s : List ℕ) (base count list budget room : ℕ) → listsBy (answerOf s base count list budget room) ≡ listsRead s base count list budget
-unfolding answerOf listsRead
-lists-reported s base count list budget room = go (ltb BUDGET-LIMIT budget) (ltb COUNT-LIMIT count) (eqb count 0) refl refl refl
+pub lists-measured : (s : List ℕ) (base count list budget : ℕ) → listsBy (measured s base count list budget) ≡ listsRead s base count list budget
+unfolding measured listsRead
+lists-measured s base count list budget = go (ltb BUDGET-LIMIT budget) (ltb COUNT-LIMIT count) (eqb count 0) refl refl refl
   where
     go : (a b c : Bool) → ltb BUDGET-LIMIT budget ≡ a → ltb COUNT-LIMIT count ≡ b → eqb count 0 ≡ c
-        → listsBy (answerOf s base count list budget room) ≡ listsRead s base count list budget
+        → listsBy (measured s base count list budget) ≡ listsRead s base count list budget
     go true b c x y z = rw x
     go false true c x y z = rw (x, y)
     go false false true x y z = rw (x, y, z)
     go false false false x y z =
         rw (x, y, z)
-        (room-lists room (judge budget none (walkFrom s base list)) ∙ judge-lists budget none (walkFrom s base list) (omega arith)
-        ∙ ap (min budget) (zero-add (listsOf (front (walkFrom s base list)))))
+        (judge-lists budget none (walkFrom s base list) (omega arith) ∙ ap (min budget) (zero-add (listsOf (front (walkFrom s base list)))))
+
+pub lists-reported : (s : List ℕ) (base count list budget room : ℕ) → listsBy (answerOf s base count list budget room) ≡ listsRead s base count list budget
+lists-reported s base count list budget room = room-lists room (measured s base count list budget) ∙ lists-measured s base count list budget
 
 -- ---- "For a subkey count from 1 to 1,048,576 and a budget up to 65,536, the subkey walk succeeds exactly when .."
 
@@ -77,12 +69,11 @@ module _ (s : List ℕ) (base count list budget room : ℕ) (d : Started count b
 
   -- if, with the counts of all lists reached
   pub succeeds-if : Met s base list budget room → answerOf s base count list budget room ≡ success (countsOf reached)
-  unfolding inRoom
   succeeds-if m =
       let b : listsOf reached ≤ budget = m .within in
-      answer-walk s base count list budget room d
-      ∙ ap (inRoom room) (judge-all budget none reached (fine-good s base 8 list (m .fine)) (omega arith) ∙ ap success (tally-counts reached))
-      ∙ rw (le-ltb room (length (keptOf reached)) (m .fits))
+      ap (inRoom fullOf room)
+      (measured-walk s base count list budget d ∙ judge-all budget none reached (fine-good s base 8 list (m .fine)) (omega arith) ∙ ap success (tally-counts reached))
+      ∙ room-fits fullOf room (countsOf reached) (m .fits)
 
   -- and only if, again with their counts
   pub record Why (t : Counts) : Type 0 where
@@ -92,7 +83,7 @@ module _ (s : List ℕ) (base count list budget room : ℕ) (d : Started count b
 
   pub succeeds-only : (t : Counts) → answerOf s base count list budget room ≡ success t → Why t
   succeeds-only t q =
-      let w = room-success room (judge budget none reached) t (sym (answer-walk s base count list budget room d) ∙ q) in
+      let w = room-success fullOf room (judge budget none reached) t (ap (inRoom fullOf room) (sym (measured-walk s base count list budget d)) ∙ q) in
       let g = all-judge budget none reached t (omega arith) (w .0) in
       let b : 0 + listsOf reached ≤ budget = g .1 in
       let c : t ≡ countsOf reached = same-success (sym (w .0) ∙ judge-all budget none reached (g .0) (g .1)) ∙ tally-counts reached in
@@ -118,48 +109,23 @@ read-paper : {r : WalkAnswer} {t : Counts} → r ≡ Read t → walkPaper r ≡ 
 read-paper q = ap walkPaper q
 
 -- every answer reports the definition's number of lists, and a refusal changes no place: for every input
-pub answer-lists : {s : List ℕ} {base count list budget : ℕ} {old : List ℕ} {r : WalkAnswer} {new : List ℕ}
-    → Answered s base count list budget old r new → listsBy (walkPaper r) ≡ listsRead s base count list budget
-answer-lists {s} {base} {count} {list} {budget} {old} x = ap listsBy (x .answer) ∙ lists-reported s base count list budget (length old)
+module _ (s : List ℕ) (base count list budget : ℕ) (old : List ℕ) (r : WalkAnswer) (new : List ℕ) (x : WalkAnswered s base count list budget old r new) where
+  pub answer-lists : listsBy (walkPaper r) ≡ listsRead s base count list budget
+  answer-lists = ap listsBy (x .answer) ∙ lists-reported s base count list budget (length old)
 
-refused-buffer : (a : Paper Counts) (t : Told) (ks old : List ℕ) → a ≡ refused t → bufferAfter a ks old ≡ old
-unfolding bufferAfter
-refused-buffer a t ks old e = rw e
-
-success-buffer : (a : Paper Counts) (t : Counts) (ks old : List ℕ) → a ≡ success t → bufferAfter a ks old ≡ ks ++ drop (length ks) old
-unfolding bufferAfter
-success-buffer a t ks old e = rw e
-
-pub refusal-untouched : {s : List ℕ} {base count list budget : ℕ} {old : List ℕ} {r : WalkAnswer} {new : List ℕ}
-    → Answered s base count list budget old r new → (f : WalkRefusal) → r ≡ Refused f → new ≡ old
-refusal-untouched {old = old} x f q = x .buffer ∙ refused-buffer _ (walkTold f) _ old (sym (x .answer) ∙ ap walkPaper q)
-
--- demand 3
-pub record Demand3 (s : List ℕ) (base count list budget : ℕ) (old : List ℕ) (r : WalkAnswer) (new : List ℕ) : Type 0 where
-  -- "the subkey walk succeeds exactly when .."
-  pub if : Met s base list budget (length old) → Succeeds r
-  pub only-if : Succeeds r → Met s base list budget (length old)
-  -- "Its reported number of lists is the definition's, refused or not"
-  pub reported : listsBy (walkPaper r) ≡ listsRead s base count list budget
-  -- "If it succeeds and no list reached is empty, that number is at most 8 times the entries of all leaf lists reached"
-  pub few : Succeeds r → All Full (walkFrom s base list) → listsBy (walkPaper r) ≤ 8 * entriesOf (walkFrom s base list)
-  -- a success gives the counts of all lists reached, and writes the offsets kept from the first place on
-  pub counts : (t : Counts) → r ≡ Read t → t ≡ countsOf (walkFrom s base list)
-  pub filled : Succeeds r → new ≡ keptOf (walkFrom s base list) ++ drop (length (keptOf (walkFrom s base list))) old
-  -- a refusal changes no place
-  pub untouched : (f : WalkRefusal) → r ≡ Refused f → new ≡ old
+  pub refusal-untouched : (f : WalkRefusal) → r ≡ Refused f → new ≡ old
+  refusal-untouched f q = untouched x (ap walkPaper q)
 
 pub demand-3 : (s : List ℕ) (base count list budget : ℕ) (old : List ℕ) (r : WalkAnswer) (new : List ℕ)
-    → Answered s base count list budget old r new → 1 ≤ count → count ≤ COUNT-LIMIT → budget ≤ BUDGET-LIMIT → Demand3 s base count list budget old r new
+    → WalkAnswered s base count list budget old r new → 1 ≤ count → count ≤ COUNT-LIMIT → budget ≤ BUDGET-LIMIT → Demand3 s base count list budget old r new
 demand-3 s base count list budget old r new x some few small = record {
   if = λ m. record { counts = countsOf (walkFrom s base list); is = paper-read r _ (x .answer ∙ succeeds-if s base count list budget (length old) d m) };
   only-if = λ y. why y .met;
-  reported = answer-lists x;
+  reported = answer-lists s base count list budget old r new x;
   few = λ y f. rw (read-paper (y .is)) (lists-few s base count list budget (length old) d (y .counts) (answer y) f);
   counts = λ t q. why (record { counts = t; is = q }) .counts;
-  filled = λ y. x .buffer ∙ success-buffer _ (y .counts) _ old (answer y)
-      ∙ ap (λ (ks : List ℕ). ks ++ drop (length ks) old) (kept-walk s base count list (d .some));
-  untouched = λ f q. refusal-untouched x f q;
+  filled = λ y. filled x (read-paper (y .is)) ∙ ap (λ (ks : List ℕ). ks ++ drop (length ks) old) (kept-walk s base count list (d .some));
+  untouched = λ f q. refusal-untouched s base count list budget old r new x f q;
 }
   where
     d : Started count budget

@@ -1,71 +1,16 @@
--- Document 01's starred examples of lists and of the walk, proved of the definitions by computing them, under one statement.
--- Assumes nothing.
-use mathlib.Core.Path.{_≡_, refl}
-use mathlib.Core.List.{List, [], _∷_}
-use Prim.Native.Nat.{ℕ}
-use lib.ListN.{take}
+-- Document 01's starred examples of lists and of the walk, proved of the definitions by computing them. Assumes nothing.
+use mathlib.Core.Path.{refl}
 use Rattle.words.specs.Words.{little}
-use Rattle.words.specs.Refusals.{BAD-SIGN, CUT-SHORT, TOO-DEEP, OUT-OF-STEPS}
-use Rattle.words.specs.Paper.{success, refused, by}
-use Rattle.sub_key_list.specs.Lists.{LI, LH, entrySize, ofKind, listAt, keep, leafKept}
-use Rattle.sub_key_list.specs.Lists as lists
+use Rattle.words.specs.Buffers.{inRoom, bufferAfter}
+use Rattle.sub_key_list.specs.Lists.{entrySize, ofKind, listAt}
+use Rattle.sub_key_list.specs.Leaves.{keep, leafKept}
 use Rattle.sub_key_walk.specs.Trace.{each, below, trace, keptIn, keptOf, listsIn, entriesIn}
-use Rattle.sub_key_walk.specs.Judge.{fault, counted, inBudget, one, after, judge}
-use Rattle.sub_key_walk.specs.Answers.{inRoom, answerOf, keptBy, bufferAfter}
-use Rattle.sub_key_walk.specs.declared.Counts.{Counts}
-
--- a list of a kind (its two letters), a count, and its entries' bytes
-abbrev pub list : ℕ → ℕ → ℕ → List ℕ → List ℕ
-list a b n es = 0 ∷ 0 ∷ 0 ∷ 0 ∷ a ∷ b ∷ n ∷ 0 ∷ es
-
--- "`li`, count 2, entries 16 and 32"
-abbrev pub li : List ℕ
-li = list 108 105 2 (16 ∷ 0 ∷ 0 ∷ 0 ∷ 32 ∷ 0 ∷ 0 ∷ 0 ∷ [])
-
--- "The same list with list count 0"
-abbrev pub li-empty : List ℕ
-li-empty = list 108 105 0 (16 ∷ 0 ∷ 0 ∷ 0 ∷ 32 ∷ 0 ∷ 0 ∷ 0 ∷ [])
-
--- "`lx`"
-abbrev pub lx : List ℕ
-lx = list 108 120 2 (16 ∷ 0 ∷ 0 ∷ 0 ∷ 32 ∷ 0 ∷ 0 ∷ 0 ∷ [])
-
--- "Base 16, `lh` at offset 0: entry FFFFFFEF .. FFFFFFF0": the list stands at 16, each entry with a hint
-abbrev pub lh : List ℕ
-lh =
-    0 ∷ 0 ∷ 0 ∷ 0 ∷ 0 ∷ 0 ∷ 0 ∷ 0 ∷ 0 ∷ 0 ∷ 0 ∷ 0 ∷ 0 ∷ 0 ∷ 0 ∷ 0
-    ∷ list 108 104 2 (239 ∷ 255 ∷ 255 ∷ 255 ∷ 1 ∷ 1 ∷ 1 ∷ 1 ∷ 240 ∷ 255 ∷ 255 ∷ 255 ∷ 2 ∷ 2 ∷ 2 ∷ 2 ∷ [])
-
--- "`ri` at 0, base 0, naming itself"
-abbrev pub ri : List ℕ
-ri = list 114 105 1 (0 ∷ 0 ∷ 0 ∷ 0 ∷ [])
-
-abbrev pub counts : ℕ → ℕ → ℕ → Counts
-counts k l e = record { kept = k; lists = l; entries = e }
-
-pub record Examples : Type 0 where
-  -- one list
-  pub li-list : listAt li 0 ≡ success (lists.leaf LI 4 2)
-  pub empty-list : listAt li-empty 0 ≡ success (lists.leaf LI 4 0)
-  pub cut-list : listAt (take 7 li) 0 ≡ refused (by CUT-SHORT 0)
-  pub unknown-list : listAt lx 0 ≡ refused (by BAD-SIGN 0)
-  pub lh-list : listAt lh 16 ≡ success (lists.leaf LH 8 2)
-  pub ri-list : listAt ri 0 ≡ success (lists.index 1)
-  -- the walk
-  pub li-answer : answerOf li 0 2 0 1024 4096 ≡ success (counts 2 1 2)
-  pub li-kept : keptBy li 0 2 0 ≡ 16 ∷ 32 ∷ []
-  pub li-buffer : bufferAfter (answerOf li 0 2 0 1024 3) (keptBy li 0 2 0) (7 ∷ 7 ∷ 7 ∷ []) ≡ 16 ∷ 32 ∷ 7 ∷ []
-  pub empty-answer : answerOf li-empty 0 2 0 1024 4096 ≡ success (counts 0 1 0)
-  pub empty-kept : keptBy li-empty 0 2 0 ≡ []
-  pub cut-answer : answerOf (take 7 li) 0 2 0 1024 4096 ≡ refused (by CUT-SHORT 0)
-  pub unknown-answer : answerOf lx 0 2 0 1024 4096 ≡ refused (by BAD-SIGN 0)
-  pub lh-answer : answerOf lh 16 2 0 1024 4096 ≡ success (counts 1 1 2)
-  pub lh-kept : keptBy lh 16 2 0 ≡ 0xFFFFFFFF ∷ []
-  pub deep-answer : answerOf ri 0 1 0 8 4096 ≡ refused (fault TOO-DEEP 0 8)
-  pub spent-answer : answerOf ri 0 1 0 7 4096 ≡ refused (fault OUT-OF-STEPS 0 7)
+use Rattle.sub_key_walk.specs.Judge.{counted, inBudget, one, after, judge}
+use Rattle.sub_key_walk.specs.Answers.{measured, keptBy}
+use Rattle.sub_key_walk.specs.Examples.{Examples}
 
 pub examples : Examples
-unfolding little entrySize ofKind listAt keep leafKept each below trace keptIn keptOf listsIn entriesIn counted inBudget one after judge inRoom answerOf keptBy bufferAfter
+unfolding little entrySize ofKind listAt keep leafKept each below trace keptIn keptOf listsIn entriesIn counted inBudget one after judge inRoom measured keptBy bufferAfter
 examples = record {
   li-list = refl;
   empty-list = refl;

@@ -10,7 +10,8 @@ use lib.ListN.{length, length-append}
 use Rattle.words.specs.Paper.{Paper, success, refused}
 use Rattle.words.proofs.Papers.{success-refused, same-success}
 use Rattle.sub_key_walk.specs.Trace.{Event, deep, bad, index, leaf, keptIn, keptOf, listsIn, listsOf, entriesOf}
-use Rattle.sub_key_walk.specs.Judge.{fault, counted, inBudget, one, after, judge}
+use Rattle.sub_key_walk.specs.Judge.{fault, counts, counted, inBudget, one, after, judge}
+use Rattle.sub_key_walk.specs.Answers.{none}
 use Rattle.sub_key_walk.specs.Free.{All, front, listsBy}
 use Rattle.sub_key_walk.specs.declared.Counts.{Counts}
 use Rattle.sub_key_walk.proofs.Walks.{after-success, budget-success, counts-path}
@@ -21,14 +22,14 @@ abbrev pub Good : Event → Type 0
 Good (deep p) = ⊥
 Good (bad r p) = ⊥
 Good (index p n) = Unit {0}
-Good (leaf p z n ks) = Unit {0}
+Good (leaf p l) = Unit {0}
 
 good-one : (e : Event) → Good e → listsIn e ≡ 1
 unfolding listsIn
 good-one (deep p) g = absurd g
 good-one (bad r p) g = absurd g
 good-one (index p n) g = refl
-good-one (leaf p z n ks) g = refl
+good-one (leaf p l) g = refl
 
 -- where all can be read, each of them counts
 pub lists-all : (es : List Event) → All Good es → listsOf es ≡ length es
@@ -38,7 +39,7 @@ lists-all (e ∷ es) g = omega (arith, good-one e (g .0), lists-all es (g .1))
 
 -- all counts after a row of lists
 abbrev pub tally : Counts → List Event → Counts
-tally st es = record { kept = st .kept + length (keptOf es); lists = st .lists + listsOf es; entries = st .entries + entriesOf es }
+tally st es = counts (st .kept + length (keptOf es)) (st .lists + listsOf es) (st .entries + entriesOf es)
 
 tally-none : (st : Counts) → st ≡ tally st []
 unfolding keptOf listsOf entriesOf
@@ -55,7 +56,7 @@ unfolding one inBudget
 one-good budget st (deep p) g h = absurd g
 one-good budget st (bad r p) g h = absurd g
 one-good budget st (index p n) g h = rw (ne-eqb (st .lists) budget h)
-one-good budget st (leaf p z n ks) g h = rw (ne-eqb (st .lists) budget h)
+one-good budget st (leaf p l) g h = rw (ne-eqb (st .lists) budget h)
 
 -- one list was read: it can be, the budget was not spent, and it is counted
 record OneRead (budget : ℕ) (st : Counts) (e : Event) (u : Counts) : Type 0 where
@@ -70,8 +71,8 @@ one-read budget st (bad r p) u q = absurd (success-refused (sym (budget-success 
 one-read budget st (index p n) u q =
     let w = budget-success budget st p (success (counted st (index p n))) u q in
     record { good = tt; unspent = eqb-false _ _ (w .0); is = sym (same-success (w .1)) }
-one-read budget st (leaf p z n ks) u q =
-    let w = budget-success budget st p (success (counted st (leaf p z n ks))) u q in
+one-read budget st (leaf p l) u q =
+    let w = budget-success budget st p (success (counted st (leaf p l))) u q in
     record { good = tt; unspent = eqb-false _ _ (w .0); is = sym (same-success (w .1)) }
 
 counted-lists : (st : Counts) (e : Event) → Good e → counted st e .lists ≡ st .lists + 1
@@ -101,6 +102,12 @@ all-judge budget st (e ∷ es) t h q =
     let rest = all-judge budget (w .0) es t (omega arith) (w .1 .1) in
     ((o .good, rest .0), omega (arith, rest .1, good-one e (o .good)))
 
+-- a walk from nothing that succeeds counts every list
+pub judge-tally : (budget : ℕ) (es : List Event) (t : Counts) → judge budget none es ≡ success t → t ≡ tally none es
+judge-tally budget es t q =
+    let g = all-judge budget none es t (omega arith) q in
+    same-success (sym q ∙ judge-all budget none es (g .0) (g .1))
+
 -- ---- the lists that are reported
 
 -- a test and what it says
@@ -120,7 +127,7 @@ unfolding judge one inBudget after
 spent-lists budget st (deep p) es h = refl
 spent-lists budget st (bad r p) es h = rw (eq-eqb (st .lists) budget h)
 spent-lists budget st (index p n) es h = rw (eq-eqb (st .lists) budget h)
-spent-lists budget st (leaf p z n ks) es h = rw (eq-eqb (st .lists) budget h)
+spent-lists budget st (leaf p l) es h = rw (eq-eqb (st .lists) budget h)
 
 judge-next : (budget : ℕ) (st : Counts) (e : Event) (es : List Event) → Good e → (st .lists ≡ budget → ⊥) → judge budget st (e ∷ es) ≡ judge budget (counted st e) es
 unfolding judge after
@@ -146,4 +153,4 @@ judge-lists budget st [] h = omega arith
 judge-lists budget st (deep p ∷ es) h = omega arith
 judge-lists budget st (bad r p ∷ es) h = bad-lists budget st r p es h (test (st .lists) budget)
 judge-lists budget st (index p n ∷ es) h = good-lists budget st (index p n) es (listsOf (front es)) tt h (λ u k. judge-lists budget u es k) (test (st .lists) budget)
-judge-lists budget st (leaf p z n ks ∷ es) h = good-lists budget st (leaf p z n ks) es (listsOf (front es)) tt h (λ u k. judge-lists budget u es k) (test (st .lists) budget)
+judge-lists budget st (leaf p l ∷ es) h = good-lists budget st (leaf p l) es (listsOf (front es)) tt h (λ u k. judge-lists budget u es k) (test (st .lists) budget)

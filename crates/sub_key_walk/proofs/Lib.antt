@@ -6,3 +6,5 @@ pub mod Judged
 pub mod Traces
 pub mod Demand
 pub mod Examples
+pub mod Entries
+pub mod Fills

@@ -1,14 +1,18 @@
 -- What document 01 says of the walk's answer tells the answers apart. Assumes nothing.
-use mathlib.Core.Path.{_≡_, ap, sym, _∙_}
+use mathlib.Core.Path.{_≡_, ap, sym}
 use mathlib.Core.List.{List}
 use Prim.Native.Nat.{ℕ}
 use Rattle.words.specs.Paper.{success}
 use Rattle.words.proofs.Papers.{success-refused, same-success, same-told}
-use Rattle.sub_key_walk.specs.Answers.{walkTold, walkPaper, Answered}
+use Rattle.words.proofs.Buffers.{determined}
+use Rattle.sub_key_walk.specs.Answers.{walkTold, walkPaper, WalkAnswered}
 use Rattle.sub_key_walk.specs.declared.Counts.{Counts}
 use Rattle.sub_key_walk.specs.declared.WalkRefusal.{WalkRefusal}
 use Rattle.sub_key_walk.specs.declared.WalkAnswer.{WalkAnswer}
 use Rattle.sub_key_walk.specs.declared.WalkAnswer.the-variants.{Read, Refused}
+use Rattle.sub_key_walk.specs.Leaf.{leafPaper, LeafAnswered}
+use Rattle.sub_key_walk.specs.declared.LeafAnswer.{LeafAnswer}
+use Rattle.sub_key_walk.specs.declared.LeafAnswer.the-variants as leaf
 
 same-fault : {f g : WalkRefusal} → walkTold f ≡ walkTold g → f ≡ g
 same-fault e = λ i. record { number = e i .number; position = e i .position; lists = e i .lists; places = e i .places; entries = e i .entries }
@@ -20,10 +24,22 @@ paper-injective (Refused f) (Read u) e = absurd (success-refused (sym e))
 paper-injective (Refused f) (Refused g) e = ap Refused (same-fault (same-told e))
 
 -- two answers and two buffers that are allowed for one input are equal
-pub answers-determined : {s : List ℕ} {base count list budget : ℕ} {old : List ℕ} {r r′ : WalkAnswer} {new new′ : List ℕ}
-    → Answered s base count list budget old r new → Answered s base count list budget old r′ new′ → (r ≡ r′) × (new ≡ new′)
-answers-determined {r = r} {r′ = r′} x y = (paper-injective r r′ (x .answer ∙ sym (y .answer)), x .buffer ∙ sym (y .buffer))
+pub answers-determined : (s : List ℕ) (base count list budget : ℕ) {old : List ℕ} {r r′ : WalkAnswer} {new new′ : List ℕ}
+    → WalkAnswered s base count list budget old r new → WalkAnswered s base count list budget old r′ new′ → (r ≡ r′) × (new ≡ new′)
+answers-determined s base count list budget {r = r} {r′ = r′} x y = let e = determined x y in (paper-injective r r′ (e .0), e .1)
 
 -- an answer that succeeds by document 01 is a success of the code
 pub paper-read : (r : WalkAnswer) (t : Counts) → walkPaper r ≡ success t → r ≡ Read t
 paper-read r t e = paper-injective r (Read t) e
+
+-- ---- one leaf list
+
+pub leaf-paper-injective : (a b : LeafAnswer) → leafPaper a ≡ leafPaper b → a ≡ b
+leaf-paper-injective (leaf.Read t) (leaf.Read u) e = ap leaf.Read (same-success e)
+leaf-paper-injective (leaf.Read t) (leaf.Refused g) e = absurd (success-refused e)
+leaf-paper-injective (leaf.Refused f) (leaf.Read u) e = absurd (success-refused (sym e))
+leaf-paper-injective (leaf.Refused f) (leaf.Refused g) e = ap leaf.Refused (same-fault (same-told e))
+
+pub leaf-answers-determined : (s : List ℕ) (base p : ℕ) {old : List ℕ} {r r′ : LeafAnswer} {new new′ : List ℕ}
+    → LeafAnswered s base p old r new → LeafAnswered s base p old r′ new′ → (r ≡ r′) × (new ≡ new′)
+leaf-answers-determined s base p {r = r} {r′ = r′} x y = let e = determined x y in (leaf-paper-injective r r′ (e .0), e .1)

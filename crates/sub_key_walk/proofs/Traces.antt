@@ -10,9 +10,10 @@ use lib.Dec.{eqb, ltb}
 use lib.ListN.{length, length-append}
 use Rattle.words.specs.Words.{word32}
 use Rattle.words.specs.Paper.{Told, Paper, success, refused}
-use Rattle.words.proofs.Papers.{success-refused}
-use Rattle.sub_key_list.specs.Lists.{LF, LH, LI, RI, entrySize, Listed, ofKind, kindAt, countAt, listAt, leafKept}
+use Rattle.words.proofs.Papers.{success-refused, same-success}
+use Rattle.sub_key_list.specs.Lists.{LF, LH, LI, RI, entrySize, Listed, ofKind, kindAt, countAt, listAt}
 use Rattle.sub_key_list.specs.Lists as lists
+use Rattle.sub_key_list.specs.Leaves.{Leaf, leafOf}
 use Rattle.sub_key_walk.specs.Trace.{Event, deep, bad, index, leaf, each, below, trace, ordinary, entriesIn, entriesOf}
 use Rattle.sub_key_walk.specs.Free.{All, Known, is-lf, is-lh, is-li, is-ri, Readable, Fine, Full}
 use Rattle.sub_key_walk.proofs.Judged.{Good}
@@ -75,10 +76,51 @@ module _ (s : List ℕ) (p : ℕ) where
           let z : entrySize (kindAt s p) * countAt s p ≤ length s - p - 8 = ltb-false _ _ k in
           record { header = omega arith; known = sized-known (kindAt s p) (eqb-false _ _ g); entries = omega arith }
 
+-- ---- a leaf list that was read: its header and its entries are there, of 4 bytes each or of 8
+
+pub record Standing (s : List ℕ) (p size n : ℕ) : Type 0 where
+  pub header : p + 8 ≤ length s
+  pub word : 4 ≤ size
+  pub other-size : (size ≡ 4 → ⊥) → size ≡ 8
+  pub entries : p + 8 + size * n ≤ length s
+
+known-word : (kind : ℕ) → Known kind → 4 ≤ entrySize kind
+unfolding entrySize
+known-word kind (is-lf e) = rw e (omega arith)
+known-word kind (is-lh e) = rw e (omega arith)
+known-word kind (is-li e) = rw e (omega arith)
+known-word kind (is-ri e) = rw e (omega arith)
+
+known-other : (kind : ℕ) → Known kind → (entrySize kind ≡ 4 → ⊥) → entrySize kind ≡ 8
+unfolding entrySize
+known-other kind (is-lf e) h = rw e
+known-other kind (is-lh e) h = rw e
+known-other kind (is-li e) h = absurd (h (rw e))
+known-other kind (is-ri e) h = absurd (h (rw e))
+
+leaf-of-kind : (kind count k z n : ℕ) → ofKind kind count ≡ lists.leaf k z n → (entrySize kind ≡ z) × (count ≡ n)
+unfolding ofKind
+leaf-of-kind kind count k z n e = go (eqb kind RI) refl
+  where
+    go : (b : Bool) → eqb kind RI ≡ b → (entrySize kind ≡ z) × (count ≡ n)
+    go true q = let x : lists.index count ≡ lists.leaf k z n = rw q at e in absurd (let y : _≡_ {A = ℕ} 0 1 = cc in omega arith)
+    go false q = let x : lists.leaf kind (entrySize kind) count ≡ lists.leaf k z n = rw q at e in ((cc), (cc))
+
+pub leaf-stands : (s : List ℕ) (p k z n : ℕ) → listAt s p ≡ success (lists.leaf k z n) → Standing s p z n
+leaf-stands s p k z n e =
+    let r = read-readable s p (rw e tt) in
+    let f = leaf-of-kind (kindAt s p) (countAt s p) k z n (same-success (sym (readable-list s p r) ∙ e)) in
+    record {
+      header = r .header;
+      word = rw (f .0) at (known-word (kindAt s p) (r .known));
+      other-size = rw (f .0) at (known-other (kindAt s p) (r .known));
+      entries = rw (f .0, f .1) at (r .entries);
+    }
+
 -- ---- all lists of a trace
 
 module _ (P : Event → Type 0) where
-  all-append : (xs ys : List Event) → All P (xs ++ ys) → All P xs × All P ys
+  pub all-append : (xs ys : List Event) → All P (xs ++ ys) → All P xs × All P ys
   unfolding All
   all-append [] ys a = (tt, a)
   all-append (x ∷ xs) ys a = let r = all-append xs ys (a .1) in ((a .0, r .0), r .1)
@@ -89,8 +131,8 @@ module _ (P : Event → Type 0) where
   append-all (x ∷ xs) ys a b = (a .0, append-all xs ys (a .1) b)
 
 -- the event of a list, by what stands there
-abbrev eventOf : List ℕ → ℕ → ℕ → Paper Listed → Event
-eventOf s base p (success (lists.leaf k z n)) = leaf p z n (leafKept s base z n (p + 8))
+abbrev pub eventOf : List ℕ → ℕ → ℕ → Paper Listed → Event
+eventOf s base p (success (lists.leaf k z n)) = leaf p (leafOf s base p z n)
 eventOf s base p (success (lists.index n)) = index p n
 eventOf s base p (refused t) = bad (t .number) p
 
@@ -111,7 +153,7 @@ module _ (P Q : Event → Type 0) (s : List ℕ) (base : ℕ) (d : (p : ℕ) →
   below-imp f g p (success (lists.index n)) e a = (v p (success (lists.index n)) e (a .0), each-imp f g n (p + 8) (a .1))
   below-imp f g p (refused t) e a = (v p (refused t) e (a .0), tt)
 
-  trace-imp : (levels o : ℕ) → All P (trace (ordinary s) levels s base o) → All Q (trace (ordinary s) levels s base o)
+  pub trace-imp : (levels o : ℕ) → All P (trace (ordinary s) levels s base o) → All Q (trace (ordinary s) levels s base o)
   unfolding trace All
   trace-imp zero o a = (d (o + base) (a .0), tt)
   trace-imp (suc l) o a = below-imp (trace (ordinary s) l s base) (λ x. trace-imp l x) (o + base) (listAt s (o + base)) refl a
@@ -141,7 +183,7 @@ module _ (s : List ℕ) (base : ℕ) where
 
 -- ---- at most as many lists to a leaf entry as there are levels
 
-entries-append : (xs ys : List Event) → entriesOf (xs ++ ys) ≡ entriesOf xs + entriesOf ys
+pub entries-append : (xs ys : List Event) → entriesOf (xs ++ ys) ≡ entriesOf xs + entriesOf ys
 unfolding entriesOf
 entries-append [] ys = omega arith
 entries-append (x ∷ xs) ys = omega (arith, entries-append xs ys)
@@ -151,9 +193,9 @@ pub record Dense (l least : ℕ) (es : List Event) : Type 0 where
   pub some : least ≤ entriesOf es
   pub many : length es ≤ l * entriesOf es
 
-leaf-dense : (l p z n : ℕ) (ks : List ℕ) → 0 < n → Dense (suc l) 1 (leaf p z n ks ∷ [])
+leaf-dense : (l p : ℕ) (x : Leaf) → 0 < x .entries → Dense (suc l) 1 (leaf p x ∷ [])
 unfolding entriesOf entriesIn
-leaf-dense l p z n ks h = record { some = omega arith; many = omega (arith, suc-mul l (n + 0)) }
+leaf-dense l p x h = record { some = omega arith; many = omega (arith, suc-mul l (x .entries + 0)) }
 
 index-dense : (l p n : ℕ) (es : List Event) → 0 < n → Dense l n es → Dense (suc l) 1 (index p n ∷ es)
 unfolding entriesOf entriesIn
@@ -176,7 +218,7 @@ module _ (l : ℕ) (f : ℕ → List Event) (s : List ℕ) (g : (o : ℕ) → Al
 
   below-dense : (base p : ℕ) (h : Paper Listed) → All Good (below f s base p h) → All Full (below f s base p h) → Dense (suc l) 1 (below f s base p h)
   unfolding below All Full
-  below-dense base p (success (lists.leaf k z n)) a b = leaf-dense l p z n _ (b .0)
+  below-dense base p (success (lists.leaf k z n)) a b = leaf-dense l p _ (b .0)
   below-dense base p (success (lists.index n)) a b = index-dense l p n _ (b .0) (each-dense n (p + 8) (a .1) (b .1))
   below-dense base p (refused t) a b = absurd (a .0)
 

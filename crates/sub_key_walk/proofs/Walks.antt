@@ -1,4 +1,4 @@
--- Laws of traces, of what a budget makes of them, and of the walk's answers. Assumes nothing.
+-- Laws of traces, of what a budget makes of them, and of the answers of the walk that measures. Assumes nothing.
 use mathlib.Core.Path.{_≡_, refl, ap, sym, subst, _∙_}
 use mathlib.Core.List.{List, [], _∷_, _++_, append-assoc, append-nil}
 use mathlib.Core.Bool.{Bool, true, false, cond}
@@ -8,24 +8,25 @@ use native.Mathlib.Omega.{arith}
 use borrow.Author.Tests.{eq-eqb, ne-eqb}
 use lib.Dec.{eqb}
 use lib.ListN.{length, length-append}
-use lib.Seq.{sets}
 use Rattle.words.specs.Words.{word32}
 use Rattle.words.specs.Refusals.{TOO-DEEP, OUT-OF-STEPS}
 use Rattle.words.specs.Paper.{Told, Paper, success, refused}
 use Rattle.words.proofs.Papers.{success-refused, same-success}
-use Rattle.sub_key_list.specs.Lists.{Listed, leafKept, listPaper, LeafAnswered}
+use Rattle.sub_key_list.specs.Lists.{Listed, listPaper}
 use Rattle.sub_key_list.specs.Lists as lists
+use Rattle.sub_key_list.specs.Leaves.{leafOf}
 use Rattle.sub_key_list.specs.declared.LeafList.{LeafList}
 use Rattle.sub_key_list.specs.declared.IndexList.{IndexList}
-use Rattle.sub_key_list.specs.declared.LeafRead.{LeafRead}
 use Rattle.sub_key_list.specs.declared.SubKeyList.{SubKeyList}
 use Rattle.sub_key_list.specs.declared.SubKeyList.the-variants as found
 use Rattle.words.specs.declared.Refusal.{Refusal}
-use Rattle.sub_key_list.proofs.Leaves.{sets-append, leaf-few}
+use Rattle.sub_key_list.proofs.Leaves.{leaf-few}
 use Rattle.sub_key_walk.specs.Trace.{Event, deep, bad, index, leaf, each, below, trace, keptIn, keptOf, listsIn, entriesIn}
 use Rattle.sub_key_walk.specs.Judge.{fault, counted, inBudget, one, after, judge}
-use Rattle.sub_key_walk.specs.Answers.{walkPaper}
-use Rattle.sub_key_walk.specs.Walk.{Bounded, Walk}
+use Rattle.sub_key_walk.specs.Answers.{BUDGET-LIMIT, walkPaper}
+use Rattle.sub_key_walk.specs.Leaf.{readOf}
+use Rattle.sub_key_walk.specs.Walk.{listed, Fit, Bounded, Walk}
+use Rattle.sub_key_walk.specs.declared.LeafRead.{LeafRead}
 use Rattle.sub_key_walk.specs.declared.Counts.{Counts}
 use Rattle.sub_key_walk.specs.declared.WalkRefusal.{WalkRefusal}
 use Rattle.sub_key_walk.specs.declared.WalkAnswer.{WalkAnswer}
@@ -34,11 +35,11 @@ use Rattle.sub_key_walk.specs.declared.WalkAnswer.the-variants.{Read, Re
 -- ---- traces
 
 module _ (hd : ℕ → ℕ → Paper Listed) (levels : ℕ) (s : List ℕ) (base offset : ℕ) where
-  trace-deep : levels ≡ 0 → trace hd levels s base offset ≡ deep (offset + base) ∷ []
+  pub trace-deep : levels ≡ 0 → trace hd levels s base offset ≡ deep (offset + base) ∷ []
   unfolding trace
   trace-deep e = rw e
 
-trace-in : (hd : ℕ → ℕ → Paper Listed) (levels : ℕ) (s : List ℕ) (base offset : ℕ) → (levels ≡ 0 → ⊥)
+pub trace-in : (hd : ℕ → ℕ → Paper Listed) (levels : ℕ) (s : List ℕ) (base offset : ℕ) → (levels ≡ 0 → ⊥)
     → trace hd levels s base offset ≡ below (trace hd (levels - 1) s base) s base (offset + base) (hd levels (offset + base))
 unfolding trace
 trace-in hd zero s base offset h = absurd (h refl)
@@ -48,15 +49,15 @@ trace-in hd (suc k) s base offset h = rw pred-suc
     pred-suc = omega arith
 
 module _ (f : ℕ → List Event) (s : List ℕ) where
-  each-next : (k j pos : ℕ) → k ≡ suc j → each f s k pos ≡ f (word32 s pos) ++ each f s j (pos + 4)
+  pub each-next : (k j pos : ℕ) → k ≡ suc j → each f s k pos ≡ f (word32 s pos) ++ each f s j (pos + 4)
   unfolding each
   each-next k j pos e = rw e
 
-  each-none : (k pos : ℕ) → k ≡ 0 → each f s k pos ≡ []
+  pub each-none : (k pos : ℕ) → k ≡ 0 → each f s k pos ≡ []
   unfolding each
   each-none k pos e = rw e
 
-kept-append : (xs ys : List Event) → keptOf (xs ++ ys) ≡ keptOf xs ++ keptOf ys
+pub kept-append : (xs ys : List Event) → keptOf (xs ++ ys) ≡ keptOf xs ++ keptOf ys
 unfolding keptOf
 kept-append [] ys = refl
 kept-append (e ∷ xs) ys = ap (λ (ks : List ℕ). keptIn e ++ ks) (kept-append xs ys) ∙ sym (append-assoc (keptIn e) (keptOf xs) (keptOf ys))
@@ -102,7 +103,7 @@ unfolding one
 one-counted budget st (deep p) u q = absurd (success-refused (sym q))
 one-counted budget st (bad n p) u q = absurd (success-refused (sym (budget-success budget st p (refused (fault n p (st .lists))) u q .1)))
 one-counted budget st (index p n) u q = sym (same-success (budget-success budget st p (success (counted st (index p n))) u q .1))
-one-counted budget st (leaf p z n ks) u q = sym (same-success (budget-success budget st p (success (counted st (leaf p z n ks))) u q .1))
+one-counted budget st (leaf p l) u q = sym (same-success (budget-success budget st p (success (counted st (leaf p l))) u q .1))
 
 -- the number kept is the number of offsets kept
 pub judge-kept : (budget : ℕ) (st : Counts) (es : List Event) (t : Counts) → judge budget st es ≡ success t → t .kept ≡ st .kept + length (keptOf es)
@@ -139,7 +140,7 @@ module _ (hd : ℕ → ℕ → Paper Listed) (budget : ℕ) (st : Counts) where
         judge-bad t e = rw (trace-in hd levels s base offset h, e, ne-eqb _ _ k)
 
         judge-leaf : (kind z n : ℕ) → hd levels (offset + base) ≡ success (lists.leaf kind z n)
-            → success (counted st (leaf (offset + base) z n (leafKept s base z n (offset + base + 8)))) ≡ judge budget st (trace hd levels s base offset)
+            → success (counted st (leaf (offset + base) (leafOf s base (offset + base) z n))) ≡ judge budget st (trace hd levels s base offset)
         unfolding below judge one inBudget after
         judge-leaf kind z n e = rw (trace-in hd levels s base offset h, e, ne-eqb _ _ k)
 
@@ -148,17 +149,6 @@ module _ (hd : ℕ → ℕ → Paper Listed) (budget : ℕ) (st : Counts) where
             ≡ judge budget st (trace hd levels s base offset)
         unfolding below judge one inBudget after
         judge-index n e = rw (trace-in hd levels s base offset h, e, ne-eqb _ _ k)
-
-module _ (hd : ℕ → ℕ → Paper Listed) (levels : ℕ) (s : List ℕ) (base offset : ℕ) (h : levels ≡ 0 → ⊥) where
-  kept-leaf : (kind z n : ℕ) → hd levels (offset + base) ≡ success (lists.leaf kind z n)
-      → keptOf (trace hd levels s base offset) ≡ leafKept s base z n (offset + base + 8)
-  unfolding below keptOf keptIn
-  kept-leaf kind z n e = rw (trace-in hd levels s base offset h, e) (append-nil _)
-
-  kept-index : (n : ℕ) → hd levels (offset + base) ≡ success (lists.index n)
-      → keptOf (trace hd levels s base offset) ≡ keptOf (each (trace hd (levels - 1) s base) s n (offset + base + 8))
-  unfolding below keptOf keptIn
-  kept-index n e = rw (trace-in hd levels s base offset h, e)
 
 -- ---- what a walk gives
 
@@ -169,60 +159,37 @@ refused-read e q = success-refused (sym (ap walkPaper q) ∙ e)
 pub same-read : {t u : Counts} → Read t ≡ Read u → t ≡ u
 same-read q = cc
 
-module _ (budget : ℕ) (st : Counts) (es : List Event) (old new : List ℕ) where
-  walk-refused : {r : WalkAnswer} {x : Told} → walkPaper r ≡ refused x → refused x ≡ judge budget st es → Walk budget st es old r new
-  walk-refused e f = record { answer = e ∙ f; bounded = λ t q. absurd (refused-read e q); written = λ t q. absurd (refused-read e q) }
+module _ (budget : ℕ) (st : Counts) (es : List Event) where
+  walk-refused : {r : WalkAnswer} {x : Told} → walkPaper r ≡ refused x → refused x ≡ judge budget st es → Walk budget st es r
+  walk-refused e f = record { answer = e ∙ f; bounded = λ t q. absurd (refused-read e q) }
 
-  walk-read : (t : Counts) → success t ≡ judge budget st es → Bounded budget t → new ≡ sets old (st .kept) (keptOf es) → Walk budget st es old (Read t) new
-  walk-read t e b w = record { answer = e; bounded = λ u q. subst (Bounded budget) (same-read q) b; written = λ u q. w }
+  walk-read : (t : Counts) → success t ≡ judge budget st es → Bounded budget t → Walk budget st es (Read t)
+  walk-read t e b = record { answer = e; bounded = λ u q. subst (Bounded budget) (same-read q) b }
 
 -- what a walk that succeeds says of the definition
-pub walk-success : {budget : ℕ} {st : Counts} {es : List Event} {old new : List ℕ} {r : WalkAnswer} {t : Counts}
-    → Walk budget st es old r new → r ≡ Read t → judge budget st es ≡ success t
+pub walk-success : {budget : ℕ} {st : Counts} {es : List Event} {r : WalkAnswer} {t : Counts}
+    → Walk budget st es r → r ≡ Read t → judge budget st es ≡ success t
 walk-success w q = sym (w .answer) ∙ ap walkPaper q
 
--- ---- the counts that the code builds
-
-abbrev pub passed : Counts → Counts
-passed st = record { kept = st .kept; lists = st .lists + 1; entries = st .entries }
-
-abbrev pub leafed : Counts → LeafRead → Counts
-leafed st r = record { kept = st .kept + r .kept; lists = st .lists + 1; entries = st .entries + r .entries }
+-- ---- the counts
 
 pub counts-path : {a b : Counts} → a .kept ≡ b .kept → a .lists ≡ b .lists → a .entries ≡ b .entries → a ≡ b
 counts-path p q r = λ i. record { kept = p i; lists = q i; entries = r i }
 
-passed-is : (st : Counts) (p n : ℕ) → passed st ≡ counted st (index p n)
-unfolding counted keptIn listsIn entriesIn
-passed-is st p n = counts-path (omega arith) refl (omega arith)
-
-leafed-is : (st : Counts) (r : LeafRead) (p z n : ℕ) (ks : List ℕ) → r .kept ≡ length ks → r .entries ≡ n → leafed st r ≡ counted st (leaf p z n ks)
-unfolding counted keptIn listsIn entriesIn
-leafed-is st r p z n ks a b = counts-path (omega arith) refl (omega arith)
-
 -- ---- the loop over the entries of an `ri` list
 
-pub record Indexing (budget : ℕ) (f : ℕ → List Event) (s : List ℕ) (n first : ℕ) (st : Counts) (old out : List ℕ) (sum : Counts) (pos i : ℕ) : Type 0 where
+pub record Indexing (budget : ℕ) (f : ℕ → List Event) (s : List ℕ) (n first : ℕ) (st sum : Counts) (pos i : ℕ) : Type 0 where
   pub within : i ≤ n
   pub near : pos ≡ first + 4 * i
   pub judged : judge budget sum (each f s (n - i) pos) ≡ judge budget st (each f s n first)
-  pub writes : sets out (sum .kept) (keptOf (each f s (n - i) pos)) ≡ sets old (st .kept) (keptOf (each f s n first))
   pub few : Bounded budget sum
-  pub long : length out ≡ length old
 
-module _ (budget : ℕ) (f : ℕ → List Event) (s : List ℕ) (n first : ℕ) (st : Counts) (old : List ℕ) where
-  pub indexing-start : Bounded budget st → Indexing budget f s n first st old old st first 0
-  indexing-start b = record {
-    within = omega arith;
-    near = omega arith;
-    judged = rw sub-zero;
-    writes = rw sub-zero;
-    few = b;
-    long = refl;
-  }
+module _ (budget : ℕ) (f : ℕ → List Event) (s : List ℕ) (n first : ℕ) (st : Counts) where
+  pub indexing-start : Bounded budget st → Indexing budget f s n first st st first 0
+  indexing-start b = record { within = omega arith; near = omega arith; judged = rw sub-zero; few = b }
 
-  module _ (out : List ℕ) (sum : Counts) (pos i : ℕ) (v : Indexing budget f s n first st old out sum pos i) where
-    module _ (h : i < n) (next : ℕ) (e : next ≡ word32 s pos) (new : List ℕ) where
+  module _ (sum : Counts) (pos i : ℕ) (v : Indexing budget f s n first st sum pos i) where
+    module _ (h : i < n) (next : ℕ) (e : next ≡ word32 s pos) where
       split : each f s (n - i) pos ≡ f next ++ each f s (n - (i + 1)) (pos + 4)
       split = rw e (each-next f s (n - i) (n - (i + 1)) pos (omega arith))
 
@@ -233,102 +200,107 @@ module _ (budget : ℕ) (f : ℕ → List Event) (s : List ℕ) (n first : ℕ) 
           ap (λ (x : Paper Counts). after x (λ st′. judge budget st′ rest)) (sym q) ∙ sym (judge-append budget sum (f next) rest)
           ∙ ap (judge budget sum) (sym split) ∙ v .judged
 
-      pub indexing-step : (r : WalkAnswer) (t : Counts) → Walk budget sum (f next) out r new → r ≡ Read t → length new ≡ length out
-          → Indexing budget f s n first st old new t (pos + 4) (i + 1)
+      pub indexing-step : (r : WalkAnswer) (t : Counts) → Walk budget sum (f next) r → r ≡ Read t → Indexing budget f s n first st t (pos + 4) (i + 1)
       unfolding after
-      indexing-step r t w q l =
-          let k : t .kept ≡ sum .kept + length (keptOf (f next)) = judge-kept budget sum (f next) t (walk-success w q) in
-          record {
-            within = omega arith;
-            near = omega (arith, v .near);
-            judged = onward (success t) (walk-success w q);
-            writes = rw (w .written t q, k, ← sets-append, ← kept-append, ← split) (v .writes);
-            few = w .bounded t q;
-            long = l ∙ v .long;
-          }
+      indexing-step r t w q =
+          record { within = omega arith; near = omega (arith, v .near); judged = onward (success t) (walk-success w q); few = w .bounded t q }
 
-      indexing-refused : {r : WalkAnswer} {x : Told} → Walk budget sum (f next) out r new → walkPaper r ≡ refused x → refused x ≡ judge budget st (each f s n first)
+      indexing-refused : {r : WalkAnswer} {x : Told} → Walk budget sum (f next) r → walkPaper r ≡ refused x → refused x ≡ judge budget st (each f s n first)
       unfolding after
       indexing-refused {r} {x} w q = onward (refused x) (sym (w .answer) ∙ q)
 
-    module _ (h : n ≤ i) where
-      nothing : each f s (n - i) pos ≡ []
-      nothing = each-none f s (n - i) pos (omega arith)
-
-      indexing-answer : success sum ≡ judge budget st (each f s n first)
-      unfolding judge
-      indexing-answer = ap (judge budget sum) (sym nothing) ∙ v .judged
-
-      indexing-written : out ≡ sets old (st .kept) (keptOf (each f s n first))
-      unfolding keptOf
-      indexing-written = ap (λ (es : List Event). sets out (sum .kept) (keptOf es)) (sym nothing) ∙ v .writes
+    indexing-answer : n ≤ i → success sum ≡ judge budget st (each f s n first)
+    unfolding judge
+    indexing-answer h = ap (judge budget sum) (sym (each-none f s (n - i) pos (omega arith))) ∙ v .judged
 
 -- ---- the answers of a walk, each from what its code has found
 
-module _ (hd : ℕ → ℕ → Paper Listed) (budget : ℕ) (st : Counts) (levels : ℕ) (s : List ℕ) (base offset : ℕ) (old : List ℕ) {r : WalkAnswer} where
-  pub walk-deep : walkPaper r ≡ refused (fault TOO-DEEP (offset + base) (st .lists)) → levels ≡ 0 → Walk budget st (trace hd levels s base offset) old r old
-  walk-deep e z = walk-refused budget st (trace hd levels s base offset) old old e (judge-deep hd budget st levels s base offset z)
+module _ (hd : ℕ → ℕ → Paper Listed) (budget : ℕ) (st : Counts) (levels : ℕ) (s : List ℕ) (base offset : ℕ) {r : WalkAnswer} where
+  pub walk-deep : walkPaper r ≡ refused (fault TOO-DEEP (offset + base) (st .lists)) → levels ≡ 0 → Walk budget st (trace hd levels s base offset) r
+  walk-deep e z = walk-refused budget st (trace hd levels s base offset) e (judge-deep hd budget st levels s base offset z)
 
   pub walk-spent : walkPaper r ≡ refused (fault OUT-OF-STEPS (offset + base) (st .lists)) → (levels ≡ 0 → ⊥) → st .lists ≡ budget
-      → Walk budget st (trace hd levels s base offset) old r old
-  walk-spent e h z = walk-refused budget st (trace hd levels s base offset) old old e (judge-spent hd budget st levels s base offset h z)
+      → Walk budget st (trace hd levels s base offset) r
+  walk-spent e h z = walk-refused budget st (trace hd levels s base offset) e (judge-spent hd budget st levels s base offset h z)
 
 -- a list is reached within the levels and the budget, at small counts, and `g` is what the code finds there
 pub record Reached (hd : ℕ → ℕ → Paper Listed) (budget : ℕ) (st : Counts) (levels : ℕ) (s : List ℕ) (base offset : ℕ) (g : SubKeyList) : Type 0 where
   pub deeper : levels ≡ 0 → ⊥
   pub unspent : st .lists ≡ budget → ⊥
+  pub small : budget ≤ BUDGET-LIMIT
   pub few : Bounded budget st
   pub is : hd levels (offset + base) ≡ listPaper g
 
 module _ {hd : ℕ → ℕ → Paper Listed} {budget : ℕ} {st : Counts} {levels : ℕ} {s : List ℕ} {base offset : ℕ} where
-  pub walk-bad : {g : Refusal} (old : List ℕ) → Reached hd budget st levels s base offset (found.Refused g) → {r : WalkAnswer}
-      → walkPaper r ≡ refused (fault (g .number) (offset + base) (st .lists)) → Walk budget st (trace hd levels s base offset) old r old
-  walk-bad {g} old x e =
-      walk-refused budget st (trace hd levels s base offset) old old e
+  pub walk-bad : {g : Refusal} → Reached hd budget st levels s base offset (found.Refused g) → {r : WalkAnswer}
+      → walkPaper r ≡ refused (fault (g .number) (offset + base) (st .lists)) → Walk budget st (trace hd levels s base offset) r
+  walk-bad {g} x e =
+      walk-refused budget st (trace hd levels s base offset) e
       (judge-bad hd budget st levels s base offset (x .deeper) (x .unspent) _ (x .is))
 
-  pub walk-leaf : {l : LeafList} → Reached hd budget st levels s base offset (found.Leaf l) → l .count < 65536 → {old new : List ℕ} {r : LeafRead}
-      → LeafAnswered s base offset l old (st .kept) r new → Walk budget st (trace hd levels s base offset) old (Read (leafed st r)) new
-  walk-leaf {l} x m {old} {new} {r} p =
-      let z : ℕ = l .«entry_size» in
-      let n : ℕ = l .count in
-      let h : levels ≡ 0 → ⊥ = x .deeper in
-      let k : st .lists ≡ budget → ⊥ = x .unspent in
-      let few : Bounded budget st = x .few in
-      let ks : List ℕ = leafKept s base z n (offset + base + 8) in
-      let a : r .kept ≡ length ks = ap (λ (c : LeafRead). c .kept) (p .answer) in
-      let b : r .entries ≡ n = ap (λ (c : LeafRead). c .entries) (p .answer) in
-      walk-read budget st (trace hd levels s base offset) old new (leafed st r)
-      (ap success (leafed-is st r (offset + base) z n ks a b) ∙ judge-leaf hd budget st levels s base offset h k (l .signature) z n (x .is))
-      (record { some-kept = omega (arith, leaf-few s base z n (offset + base + 8)); some-entries = omega arith; some-lists = omega arith })
-      (p .buffer ∙ ap (λ (ks : List ℕ). sets old (st .kept) ks) (sym (kept-leaf hd levels s base offset h (l .signature) z n (x .is))))
+  -- a list more is counted: the counts fit, and stay small
+  module _ {g : SubKeyList} (x : Reached hd budget st levels s base offset g) {k n : ℕ} (a : k ≤ n) (b : n < 65536) where
+    pub list-fits : Fit st k n
+    list-fits =
+        let u : st .lists ≡ budget → ⊥ = x .unspent in
+        let few : Bounded budget st = x .few in
+        let m : budget ≤ BUDGET-LIMIT = x .small in
+        record { fit-kept = omega arith; fit-lists = omega arith; fit-entries = omega arith }
 
-  module _ {l : IndexList} (x : Reached hd budget st levels s base offset (found.Index l)) where
-    pub passed-few : Bounded budget (passed st)
-    passed-few =
-        let k : st .lists ≡ budget → ⊥ = x .unspent in
+    list-few : Bounded budget (listed st k n)
+    list-few =
+        let u : st .lists ≡ budget → ⊥ = x .unspent in
         let few : Bounded budget st = x .few in
         record { some-kept = omega arith; some-entries = omega arith; some-lists = omega arith }
 
+  module _ {l : LeafList} (x : Reached hd budget st levels s base offset (found.Leaf l)) (m : l .count < 65536) {r : LeafRead}
+      (p : r ≡ readOf (leafOf s base (offset + base) (l .«entry_size») (l .count))) where
+    abbrev few-kept : r .kept ≤ r .entries
+    few-kept =
+        let a : r .kept ≡ length (leafOf s base (offset + base) (l .«entry_size») (l .count) .kept) = ap (λ (c : LeafRead). c .kept) p in
+        let b : r .entries ≡ l .count = ap (λ (c : LeafRead). c .entries) p in
+        omega (arith, leaf-few s base (l .«entry_size») (l .count) (offset + base + 8))
+
+    abbrev few-entries : r .entries < 65536
+    few-entries = let b : r .entries ≡ l .count = ap (λ (c : LeafRead). c .entries) p in omega arith
+
+    pub leaf-fits : Fit st (r .kept) (r .entries)
+    leaf-fits = list-fits x few-kept few-entries
+
+    pub walk-leaf : {t : Counts} → t ≡ listed st (r .kept) (r .entries) → Walk budget st (trace hd levels s base offset) (Read t)
+    unfolding counted keptIn listsIn entriesIn
+    walk-leaf {t} q =
+        walk-read budget st (trace hd levels s base offset) t
+        (ap success (q ∙ ap (λ (c : LeafRead). listed st (c .kept) (c .entries)) p)
+        ∙ judge-leaf hd budget st levels s base offset (x .deeper) (x .unspent) (l .signature) (l .«entry_size») (l .count) (x .is))
+        (subst (Bounded budget) (sym q) (list-few x few-kept few-entries))
+
+  module _ {l : IndexList} (x : Reached hd budget st levels s base offset (found.Index l)) where
+    pub index-fits : Fit st 0 0
+    index-fits = list-fits x (omega arith) (omega arith)
+
+    pub index-few : {t : Counts} → t ≡ listed st 0 0 → Bounded budget t
+    index-few q = subst (Bounded budget) (sym q) (list-few x (omega arith) (omega arith))
+
     -- the lists below an `ri` list, from the counts that the code builds
-    below-index : judge budget (passed st) (each (trace hd (levels - 1) s base) s (l .count) (offset + base + 8)) ≡ judge budget st (trace hd levels s base offset)
-    below-index =
-        ap (λ (c : Counts). judge budget c (each (trace hd (levels - 1) s base) s (l .count) (offset + base + 8))) (passed-is st (offset + base) (l .count))
+    below-index : {t : Counts} → t ≡ listed st 0 0
+        → judge budget t (each (trace hd (levels - 1) s base) s (l .count) (offset + base + 8)) ≡ judge budget st (trace hd levels s base offset)
+    unfolding counted keptIn listsIn entriesIn
+    below-index q =
+        ap (λ (c : Counts). judge budget c (each (trace hd (levels - 1) s base) s (l .count) (offset + base + 8))) q
         ∙ judge-index hd budget st levels s base offset (x .deeper) (x .unspent) (l .count) (x .is)
 
-    module _ {old out : List ℕ} {sum : Counts} {pos i : ℕ}
-        (v : Indexing budget (trace hd (levels - 1) s base) s (l .count) (offset + base + 8) (passed st) old out sum pos i) where
-      pub walk-index : l .count ≤ i → Walk budget st (trace hd levels s base offset) old (Read sum) out
+    module _ {t : Counts} (q : t ≡ listed st 0 0) {sum : Counts} {pos i : ℕ}
+        (v : Indexing budget (trace hd (levels - 1) s base) s (l .count) (offset + base + 8) t sum pos i) where
+      pub walk-index : l .count ≤ i → Walk budget st (trace hd levels s base offset) (Read sum)
       walk-index m =
-          walk-read budget st (trace hd levels s base offset) old out sum
-          (indexing-answer budget (trace hd (levels - 1) s base) s (l .count) (offset + base + 8) (passed st) old out sum pos i v m ∙ below-index)
+          walk-read budget st (trace hd levels s base offset) sum
+          (indexing-answer budget (trace hd (levels - 1) s base) s (l .count) (offset + base + 8) t sum pos i v m ∙ below-index q)
           (v .few)
-          (indexing-written budget (trace hd (levels - 1) s base) s (l .count) (offset + base + 8) (passed st) old out sum pos i v m
-          ∙ ap (λ (ks : List ℕ). sets old (st .kept) ks) (sym (kept-index hd levels s base offset (x .deeper) (l .count) (x .is))))
 
-      pub walk-index-refused : i < l .count → {next : ℕ} → next ≡ word32 s pos → {new : List ℕ} {w : WalkAnswer} {f : WalkRefusal}
-          → Walk budget sum (trace hd (levels - 1) s base next) out w new → w ≡ Refused f → Walk budget st (trace hd levels s base offset) old (Refused f) new
-      walk-index-refused m {next} d {new} {w} {f} y q =
-          walk-refused budget st (trace hd levels s base offset) old new refl
-          (indexing-refused budget (trace hd (levels - 1) s base) s (l .count) (offset + base + 8) (passed st) old out sum pos i v m next d new y (ap walkPaper q)
-          ∙ below-index)
+      pub walk-index-refused : i < l .count → {next : ℕ} → next ≡ word32 s pos → {w : WalkAnswer} {f : WalkRefusal}
+          → Walk budget sum (trace hd (levels - 1) s base next) w → w ≡ Refused f → Walk budget st (trace hd levels s base offset) (Refused f)
+      walk-index-refused m {next} d {w} {f} y e =
+          walk-refused budget st (trace hd levels s base offset) refl
+          (indexing-refused budget (trace hd (levels - 1) s base) s (l .count) (offset + base + 8) t sum pos i v m next d y (ap walkPaper e)
+          ∙ below-index q)

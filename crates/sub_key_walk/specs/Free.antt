@@ -8,6 +8,7 @@ use lib.ListN.{length}
 use Rattle.words.specs.Paper.{Paper, success, refused}
 use Rattle.sub_key_list.specs.Lists.{LF, LH, LI, RI, entrySize, kindAt, countAt}
 use Rattle.sub_key_walk.specs.Trace.{Event, deep, bad, index, leaf, walkFrom, keptOf, listsOf, entriesOf}
+use Rattle.sub_key_walk.specs.Judge.{counts}
 use Rattle.sub_key_walk.specs.Answers.{BUDGET-LIMIT, COUNT-LIMIT}
 use Rattle.sub_key_walk.specs.declared.Counts.{Counts}
 use Rattle.sub_key_walk.specs.declared.WalkAnswer.{WalkAnswer}
@@ -36,7 +37,7 @@ unfoldable pub Fine : List ℕ → Event → Type 0
 Fine s (deep p) = ⊥
 Fine s (bad r p) = Readable s p
 Fine s (index p n) = Readable s p
-Fine s (leaf p z n ks) = Readable s p
+Fine s (leaf p l) = Readable s p
 
 -- "every list reached is of a known kind with header and entries in the image and none lies below level 8, the lists read are no
 -- more than the budget, and the offsets kept fit the buffer"
@@ -47,14 +48,14 @@ pub record Met (s : List ℕ) (base list budget room : ℕ) : Type 0 where
 
 -- the counts of all lists reached
 abbrev pub countsOf : List Event → Counts
-countsOf es = record { kept = length (keptOf es); lists = listsOf es; entries = entriesOf es }
+countsOf es = counts (length (keptOf es)) (listsOf es) (entriesOf es)
 
 -- a list that can be read is not empty
 unfoldable pub Full : Event → Type 0
 Full (deep p) = Unit {0}
 Full (bad r p) = Unit {0}
 Full (index p n) = 0 < n
-Full (leaf p z n ks) = 0 < n
+Full (leaf p l) = 0 < l .entries
 
 -- the lists in front of the first that can't be read
 unfoldable pub front : List Event → List Event
@@ -62,7 +63,7 @@ front [] = []
 front (deep p ∷ es) = []
 front (bad r p ∷ es) = []
 front (index p n ∷ es) = index p n ∷ front es
-front (leaf p z n ks ∷ es) = leaf p z n ks ∷ front es
+front (leaf p l ∷ es) = leaf p l ∷ front es
 
 -- "the definition's" number of lists: those in front of the first that can't be read, and no more than the budget; none where
 -- no list is reached

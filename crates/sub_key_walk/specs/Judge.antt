@@ -6,19 +6,22 @@ use mathlib.Core.Bool.{cond}
 use lib.Dec.{eqb}
 use lib.ListN.{length}
 use Rattle.words.specs.Refusals.{TOO-DEEP, OUT-OF-STEPS}
-use Rattle.words.specs.Paper.{Told, Paper, success, refused}
+use Rattle.words.specs.Paper.{Told, Paper, success, refused, tell}
 use Rattle.sub_key_walk.specs.Trace.{Event, deep, bad, index, leaf, keptIn, listsIn, entriesIn}
 use Rattle.sub_key_walk.specs.declared.Counts.{Counts}
 
 -- "A refusal returns its number, the position of the list .. at fault .. and, from the walk, the lists read so far. Other fields
 -- are 0"
 abbrev pub fault : ℕ → ℕ → ℕ → Told
-fault n p l = record { number = n; position = p; lists = l; places = 0; entries = 0 }
+fault n p l = tell n p l 0 0
+
+-- "The answer gives offsets kept, lists read, and leaf entries, dropped ones included": the one place where they are put together
+abbrev pub counts : ℕ → ℕ → ℕ → Counts
+counts kept lists entries = record { kept = kept; lists = lists; entries = entries }
 
 -- "Then it counts as read": the counts with one list more
 unfoldable pub counted : Counts → Event → Counts
-counted st e =
-    record { kept = st .kept + length (keptIn e); lists = st .lists + listsIn e; entries = st .entries + entriesIn e }
+counted st e = counts (st .kept + length (keptIn e)) (st .lists + listsIn e) (st .entries + entriesIn e)
 
 -- 15: "another list is reached when the lists read equal the budget"
 unfoldable pub inBudget : ℕ → Counts → ℕ → Paper Counts → Paper Counts
@@ -29,7 +32,7 @@ unfoldable pub one : ℕ → Counts → Event → Paper Counts
 one budget st (deep p) = refused (fault TOO-DEEP p (st .lists))
 one budget st (bad n p) = inBudget budget st p (refused (fault n p (st .lists)))
 one budget st (index p n) = inBudget budget st p (success (counted st (index p n)))
-one budget st (leaf p z n ks) = inBudget budget st p (success (counted st (leaf p z n ks)))
+one budget st (leaf p l) = inBudget budget st p (success (counted st (leaf p l)))
 
 -- "The first fault in walk order is the refusal"
 unfoldable pub after : Paper Counts → (Counts → Paper Counts) → Paper Counts

@@ -4,8 +4,9 @@ use Prim.Native.Nat.{ℕ, zero, suc, _+_}
 use mathlib.Core.List.{List, [], _∷_, _++_}
 use Rattle.words.specs.Words.{word32}
 use Rattle.words.specs.Paper.{Paper, success, refused}
-use Rattle.sub_key_list.specs.Lists.{Listed, listAt, leafKept}
+use Rattle.sub_key_list.specs.Lists.{Listed, listAt}
 use Rattle.sub_key_list.specs.Lists as lists
+use Rattle.sub_key_list.specs.Leaves.{Leaf, leafOf}
 
 -- a list that is reached, each with its position
 pub data Event : Type 0 where
@@ -15,8 +16,8 @@ pub data Event : Type 0 where
   bad : ℕ → ℕ → Event
   -- an `ri` list: the number of its entries
   index : ℕ → ℕ → Event
-  -- a leaf list: the bytes an entry, the number of its entries, and the offsets kept
-  leaf : ℕ → ℕ → ℕ → List ℕ → Event
+  -- a leaf list, and what it gives
+  leaf : ℕ → Leaf → Event
 
 -- "Entries are followed depth first, in order": what `f` reaches from each of `left` offsets of 4 bytes, the first at `pos`
 unfoldable pub each : (ℕ → List Event) → List ℕ → ℕ → ℕ → List Event
@@ -26,7 +27,7 @@ each f s (suc left) pos = f (word32 s pos) ++ each f s left (pos + 4)
 -- the lists reached from a list at `p`, given what stands there and what is reached from an offset one level lower: "entries at
 -- 8", "a list named in an `ri` list lies one level lower"
 unfoldable pub below : (ℕ → List Event) → List ℕ → ℕ → ℕ → Paper Listed → List Event
-below f s base p (success (lists.leaf kind size n)) = leaf p size n (leafKept s base size n (p + 8)) ∷ []
+below f s base p (success (lists.leaf kind size n)) = leaf p (leafOf s base p size n) ∷ []
 below f s base p (success (lists.index n)) = index p n ∷ each f s n (p + 8)
 below f s base p (refused t) = bad (t .number) p ∷ []
 
@@ -54,7 +55,7 @@ unfoldable pub keptIn : Event → List ℕ
 keptIn (deep p) = []
 keptIn (bad r p) = []
 keptIn (index p n) = []
-keptIn (leaf p z n ks) = ks
+keptIn (leaf p l) = l .kept
 
 unfoldable pub keptOf : List Event → List ℕ
 keptOf [] = []
@@ -65,7 +66,7 @@ unfoldable pub listsIn : Event → ℕ
 listsIn (deep p) = 0
 listsIn (bad r p) = 0
 listsIn (index p n) = 1
-listsIn (leaf p z n ks) = 1
+listsIn (leaf p l) = 1
 
 unfoldable pub listsOf : List Event → ℕ
 listsOf [] = 0
@@ -75,7 +76,7 @@ unfoldable pub entriesIn : Event → ℕ
 entriesIn (deep p) = 0
 entriesIn (bad r p) = 0
 entriesIn (index p n) = 0
-entriesIn (leaf p z n ks) = n
+entriesIn (leaf p l) = l .entries
 
 unfoldable pub entriesOf : List Event → ℕ
 entriesOf [] = 0

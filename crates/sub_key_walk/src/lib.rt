@@ -1,12 +1,19 @@
-// The subkeys of a key record: the walk from its list through the lists that `ri` lists name, depth first and in order.
+// The subkeys of a key record: the walk from its list through the lists that `ri` lists name, depth first and in order; and those of
+// one leaf list. A walk is measured first and its buffer filled after, so that a refusal leaves the buffer as it was.
+use sub_key_list::LeafList;
 use sub_key_list::SubKeyList;
 ghost use mathlib.Core.Path.{_≡_};
-ghost use Prim.Native.Nat.{_≤_};
-ghost use Rattle.words.specs.Paper.{refused};
-ghost use Rattle.sub_key_walk.specs.Trace.{trace, ordinary};
+ghost use Prim.Native.Nat.{_+_, _≤_};
+ghost use mathlib.Core.List.{[]};
+ghost use lib.ListN.{length};
+ghost use Rattle.words.specs.Words.{word32};
+ghost use Rattle.words.specs.Paper.{refused, noRoom};
+ghost use Rattle.sub_key_list.specs.Leaves.{keep, leafKept, dropOne, leafDropped, leafOf};
+ghost use Rattle.sub_key_walk.specs.Trace.{trace, ordinary, keptOf};
 ghost use Rattle.sub_key_walk.specs.Judge.{fault};
-ghost use Rattle.sub_key_walk.specs.Answers.{BUDGET-LIMIT, walkPaper, noRoom, Answered};
-ghost use Rattle.sub_key_walk.specs.Walk.{Bounded, Walk};
+ghost use Rattle.sub_key_walk.specs.Answers.{BUDGET-LIMIT, none, measured, walkTold, walkPaper, WalkAnswered};
+ghost use Rattle.sub_key_walk.specs.Leaf.{readOf, LeafAnswered};
+ghost use Rattle.sub_key_walk.specs.Walk.{Entries, Stands, Whole, Filled, listed, Fit, Bounded, Walk, Roomy};
 
 // The greatest budget, the greatest count of subkeys or of values, and the levels of lists.
 const BUDGET_LIMIT: u32 = 65536;
@@ -37,50 +44,273 @@ pub enum WalkAnswer {
     Refused(WalkRefusal),
 }
 
+// What one leaf list gave: the offsets kept, and all entries, dropped ones included.
+pub struct LeafRead {
+    pub kept: u32,
+    pub entries: u32,
+}
+
+pub enum LeafAnswer {
+    Read(LeafRead),
+    Refused(WalkRefusal),
+}
+
 // A refusal of the list at a position, after so many lists.
-fn refuse(number: u32, position: usize, lists: u32) -> WalkAnswer
-    ensures { λ r. ⌜ walkPaper r ≡ refused (fault number position lists) ⌝ }
+fn refusal(number: u32, position: usize, lists: u32) -> WalkRefusal
+    ensures { λ r. ⌜ walkTold r ≡ fault number position lists ⌝ }
 {
-    WalkAnswer::Refused(WalkRefusal {
+    WalkRefusal {
         number,
         position,
         lists,
         places: 0,
         entries: 0,
-    })
+    }
 }
 
-// The refusal of a walk that is whole, where the buffer has too few places.
-fn no_room(done: Counts) -> WalkAnswer
-    ensures { λ r. ⌜ walkPaper r ≡ refused (noRoom done) ⌝ }
+// The refusal of what can be read, where the buffer has too few places.
+fn full(lists: u32, places: u32, entries: u32) -> WalkRefusal
+    ensures { λ r. ⌜ walkTold r ≡ noRoom lists places entries ⌝ }
 {
-    WalkAnswer::Refused(WalkRefusal {
+    WalkRefusal {
         number: words::NO_ROOM,
         position: 0,
-        lists: done.lists,
-        places: done.kept,
-        entries: done.entries,
-    })
+        lists,
+        places,
+        entries,
+    }
 }
 
-// Walks the list at an offset, with so many levels left and after the counts `done`. The offsets kept go to `out` from the
-// place `done.kept` on, as many as there is room for.
-fn walk(
+fn refuse(number: u32, position: usize, lists: u32) -> WalkAnswer
+    ensures { λ r. ⌜ walkPaper r ≡ refused (fault number position lists) ⌝ }
+{
+    WalkAnswer::Refused(refusal(number, position, lists))
+}
+
+// No list is read yet.
+fn no_counts() -> Counts
+    ensures { λ r. ⌜ r ≡ none ⌝ }
+{
+    Counts {
+        kept: 0,
+        lists: 0,
+        entries: 0,
+    }
+}
+
+// The counts with a list more, which keeps so many of so many entries.
+fn with_list(done: Counts, kept: u32, entries: u32) -> Counts
+    requires { ⌜ Fit done kept entries ⌝ }
+    ensures { λ r. ⌜ r ≡ listed done kept entries ⌝ }
+{
+    Counts {
+        kept: done.kept + kept,
+        lists: done.lists + 1,
+        entries: done.entries + entries,
+    }
+}
+
+// The word at a place whose four bytes are there.
+fn word(image: &[u8], at: usize) -> u32
+    requires { ⌜ at + 4 ≤ length (now image) ⌝ }
+    ensures { λ r. ⌜ r ≡ word32 (now (image .entry)) at ⌝ }
+{
+    words::join4(image[at], image[at + 1], image[at + 2], image[at + 3])
+}
+
+// 1 for an entry that is dropped, and 0 for one that is kept.
+fn drop_one(v: u32, base: u32) -> u32
+    ensures { λ r. ⌜ r ≡ dropOne (v + base) ⌝ }
+{
+    if 4294967295 - base < v { 1 } else { 0 }
+}
+
+// How many of the entries of `size` bytes each, the first at `pos`, are dropped: those whose sum with the base passes 32 bits. The
+// loops over entries are called with a constant size, so that the compiler makes wide steps of them.
+fn dropped_of(image: &[u8], base: u32, size: usize, pos: usize, count: u16) -> u32
+    requires { ⌜ Entries (now image) size count pos ⌝ }
+    ensures { λ r. ⌜ r ≡ leafDropped (now (image .entry)) base size count pos ⌝ }
+{
+    let mut dropped: u32 = 0;
+    let mut at = pos;
+    let mut i: u16 = 0;
+    while i < count {
+        let v = word(image, at);
+        dropped = dropped + drop_one(v, base);
+        at = at + size;
+        i = i + 1;
+    }
+    dropped
+}
+
+// Writes the sums of entries of which none is dropped from a place on, and gives the place behind them.
+fn fill_whole(
+    image: &[u8],
+    base: u32,
+    size: usize,
+    pos: usize,
+    count: u16,
+    out: &mut [u32],
+    place: usize,
+) -> usize
+    requires { ⌜ Entries (now image) size count pos ⌝ ∗ ⌜ leafDropped (now image) base size count pos ≡ 0 ⌝ ∗ ⌜ place + length (leafKept (now image) base size count pos) ≤ length (now out) ⌝ }
+    ensures { λ r. ⌜ Filled (leafKept (now (image .entry)) base size count pos) (now (out .entry)) place r (now (out .exit)) ⌝ }
+{
+    let mut at = pos;
+    let mut to = place;
+    let mut i: u16 = 0;
+    while i < count {
+        let v = word(image, at);
+        out[to] = v + base;
+        at = at + size;
+        to = to + 1;
+        i = i + 1;
+    }
+    to
+}
+
+// One entry more: written where it is kept. The place behind it.
+fn put_kept(v: u32, base: u32, out: &mut [u32], to: usize) -> usize
+    requires { ⌜ to + length (keep (v + base) []) ≤ length (now out) ⌝ }
+    ensures { λ r. ⌜ Filled (keep (v + base) []) (now (out .entry)) to r (now (out .exit)) ⌝ }
+{
+    if v <= 4294967295 - base {
+        out[to] = v + base;
+        to + 1
+    } else {
+        to
+    }
+}
+
+// The same of entries of which some may be dropped.
+fn fill_kept(
+    image: &[u8],
+    base: u32,
+    size: usize,
+    pos: usize,
+    count: u16,
+    out: &mut [u32],
+    place: usize,
+) -> usize
+    requires { ⌜ Entries (now image) size count pos ⌝ ∗ ⌜ place + length (leafKept (now image) base size count pos) ≤ length (now out) ⌝ }
+    ensures { λ r. ⌜ Filled (leafKept (now (image .entry)) base size count pos) (now (out .entry)) place r (now (out .exit)) ⌝ }
+{
+    let mut at = pos;
+    let mut to = place;
+    let mut i: u16 = 0;
+    while i < count {
+        let v = word(image, at);
+        to = put_kept(v, base, out, to);
+        at = at + size;
+        i = i + 1;
+    }
+    to
+}
+
+fn fill_entries(
+    image: &[u8],
+    base: u32,
+    size: usize,
+    pos: usize,
+    count: u16,
+    whole: bool,
+    out: &mut [u32],
+    place: usize,
+) -> usize
+    requires { ⌜ Entries (now image) size count pos ⌝ ∗ ⌜ Whole (now image) base size count pos whole ⌝ ∗ ⌜ place + length (leafKept (now image) base size count pos) ≤ length (now out) ⌝ }
+    ensures { λ r. ⌜ Filled (leafKept (now (image .entry)) base size count pos) (now (out .entry)) place r (now (out .exit)) ⌝ }
+{
+    if whole {
+        fill_whole(image, base, size, pos, count, out, place)
+    } else {
+        fill_kept(image, base, size, pos, count, out, place)
+    }
+}
+
+// How many entries of the leaf list that stands at a position are dropped.
+fn dropped_in(image: &[u8], base: u32, position: usize, leaf: LeafList) -> u32
+    requires { ⌜ Stands (now image) position leaf ⌝ }
+    ensures { λ r. ⌜ r ≡ leafDropped (now (image .entry)) base (leaf .«entry_size») (leaf .count) (position + 8) ⌝ }
+{
+    let count = leaf.count;
+    let size = leaf.entry_size;
+    let pos = position + 8;
+    if size == 4 {
+        dropped_of(image, base, 4, pos, count)
+    } else {
+        dropped_of(image, base, 8, pos, count)
+    }
+}
+
+// What it gives, counted.
+fn read_leaf(image: &[u8], base: u32, position: usize, leaf: LeafList) -> LeafRead
+    requires { ⌜ Stands (now image) position leaf ⌝ }
+    ensures { λ r. ⌜ r ≡ readOf (leafOf (now (image .entry)) base position (leaf .«entry_size») (leaf .count)) ⌝ }
+{
+    let dropped = dropped_in(image, base, position, leaf);
+    let entries = leaf.count as u32;
+    let kept = entries - dropped;
+    LeafRead { kept, entries }
+}
+
+// And written from a place on. Where it is known that none is dropped, `whole` says so.
+fn fill_leaf(
+    image: &[u8],
+    base: u32,
+    position: usize,
+    leaf: LeafList,
+    whole: bool,
+    out: &mut [u32],
+    place: usize,
+) -> usize
+    requires { ⌜ Stands (now image) position leaf ⌝ ∗ ⌜ Whole (now image) base (leaf .«entry_size») (leaf .count) (position + 8) whole ⌝ ∗ ⌜ place + length (leafKept (now image) base (leaf .«entry_size») (leaf .count) (position + 8)) ≤ length (now out) ⌝ }
+    ensures { λ r. ⌜ Filled (leafKept (now (image .entry)) base (leaf .«entry_size») (leaf .count) (position + 8)) (now (out .entry)) place r (now (out .exit)) ⌝ }
+{
+    let count = leaf.count;
+    let size = leaf.entry_size;
+    let pos = position + 8;
+    if size == 4 {
+        fill_entries(image, base, 4, pos, count, whole, out, place)
+    } else {
+        fill_entries(image, base, 8, pos, count, whole, out, place)
+    }
+}
+
+// The subkeys of the leaf list at a position, each plus the base, into `out`.
+pub fn leaf_sub_keys(image: &[u8], base: u32, position: usize, out: &mut [u32]) -> LeafAnswer
+    ensures { λ r. ⌜ LeafAnswered (now (image .entry)) base position (now (out .entry)) r (now (out .exit)) ⌝ }
+{
+    match sub_key_list::read_list(image, position) {
+        SubKeyList::Refused(fault) => LeafAnswer::Refused(refusal(fault.number, fault.position, 0)),
+        SubKeyList::Index(index) => LeafAnswer::Refused(refusal(words::BAD_SIGN, position, 0)),
+        SubKeyList::Leaf(leaf) => {
+            let read = read_leaf(image, base, position, leaf);
+            let kept = read.kept;
+            let entries = read.entries;
+            let room = out.len();
+            if room < (kept as usize) {
+                return LeafAnswer::Refused(full(0, kept, entries));
+            }
+            fill_leaf(image, base, position, leaf, kept == entries, out, 0);
+            LeafAnswer::Read(read)
+        }
+    }
+}
+
+// Measures the walk of the list at an offset, with so many levels left and after the counts `done`.
+fn measure(
     image: &[u8],
     base: u32,
     budget: u32,
     levels: u32,
     offset: u32,
     done: Counts,
-    out: &mut [u32],
 ) -> WalkAnswer
     requires { ⌜ budget ≤ BUDGET-LIMIT ⌝ ∗ ⌜ Bounded budget done ⌝ }
-    ensures { λ r. ⌜ Walk budget done (trace (ordinary (now (image .entry))) levels (now (image .entry)) base offset) (now (out .entry)) r (now (out .exit)) ⌝ }
+    ensures { λ r. ⌜ Walk budget done (trace (ordinary (now (image .entry))) levels (now (image .entry)) base offset) r ⌝ }
 {
     let position = (offset as usize) + (base as usize);
-    let kept = done.kept;
     let lists = done.lists;
-    let entries = done.entries;
     if levels == 0 {
         return refuse(words::TOO_DEEP, position, lists);
     }
@@ -90,29 +320,17 @@ fn walk(
     match sub_key_list::read_list(image, position) {
         SubKeyList::Refused(fault) => refuse(fault.number, position, lists),
         SubKeyList::Leaf(leaf) => {
-            let more = sub_key_list::leaf_offsets(image, base, offset, leaf, out, kept as usize);
-            let kept_after = kept + (more.kept as u32);
-            let lists_after = lists + 1;
-            let entries_after = entries + (more.entries as u32);
-            WalkAnswer::Read(Counts {
-                kept: kept_after,
-                lists: lists_after,
-                entries: entries_after,
-            })
+            let read = read_leaf(image, base, position, leaf);
+            WalkAnswer::Read(with_list(done, read.kept, read.entries))
         }
         SubKeyList::Index(index) => {
             let count = index.count;
-            let lists_here = lists + 1;
-            let mut sum = Counts {
-                kept,
-                lists: lists_here,
-                entries,
-            };
+            let mut sum = with_list(done, 0, 0);
             let mut pos = position + 8;
             let mut i: u16 = 0;
             while i < count {
                 let next = words::u32_at(image, pos);
-                match walk(image, base, budget, levels - 1, next, sum, out) {
+                match measure(image, base, budget, levels - 1, next, sum) {
                     WalkAnswer::Refused(fault) => {
                         return WalkAnswer::Refused(fault);
                     }
@@ -128,8 +346,62 @@ fn walk(
     }
 }
 
-// The subkeys of a key record with a subkey count and the offset of its list. The walk is measured first, over a part of `out`
-// that has no places, and `out` is filled after: a refusal leaves it as it was.
+// Writes what the walk of the list at an offset keeps, with so many levels left, to `out` from a place on, and gives the place behind
+// it. A list that cannot be read has nothing: the walk is measured before.
+fn fill(
+    image: &[u8],
+    base: u32,
+    left: u32,
+    offset: u32,
+    whole: bool,
+    out: &mut [u32],
+    place: usize,
+) -> usize
+    requires { ⌜ Roomy (trace (ordinary (now image)) left (now image) base offset) whole (now out) place ⌝ }
+    ensures { λ r. ⌜ Filled (keptOf (trace (ordinary (now (image .entry))) left (now (image .entry)) base offset)) (now (out .entry)) place r (now (out .exit)) ⌝ }
+{
+    if left == 0 {
+        return place;
+    }
+    let position = (offset as usize) + (base as usize);
+    match sub_key_list::read_list(image, position) {
+        SubKeyList::Refused(fault) => place,
+        SubKeyList::Leaf(leaf) => fill_leaf(image, base, position, leaf, whole, out, place),
+        SubKeyList::Index(index) => {
+            let count = index.count;
+            let mut to = place;
+            let mut from = position + 8;
+            let mut k: u16 = 0;
+            while k < count {
+                let next = words::u32_at(image, from);
+                to = fill(image, base, left - 1, next, whole, out, to);
+                from = from + 4;
+                k = k + 1;
+            }
+            to
+        }
+    }
+}
+
+// The walk from a key record with a subkey count and the offset of its list, with no regard to room: what it counts, and nothing is
+// written.
+pub fn sub_key_counts(image: &[u8], base: u32, count: u32, list: u32, budget: u32) -> WalkAnswer
+    ensures { λ r. ⌜ walkPaper r ≡ measured (now (image .entry)) base count list budget ⌝ }
+{
+    if BUDGET_LIMIT < budget {
+        return refuse(words::BAD_BUDGET, 0, 0);
+    }
+    if COUNT_LIMIT < count {
+        return refuse(words::TOO_MANY, 0, 0);
+    }
+    let none = no_counts();
+    if count == 0 {
+        return WalkAnswer::Read(none);
+    }
+    measure(image, base, budget, LEVELS, list, none)
+}
+
+// The subkeys of a key record with a subkey count and the offset of its list, into `out`.
 pub fn sub_keys(
     image: &[u8],
     base: u32,
@@ -138,31 +410,19 @@ pub fn sub_keys(
     budget: u32,
     out: &mut [u32],
 ) -> WalkAnswer
-    ensures { λ r. ⌜ Answered (now (image .entry)) base count list budget (now (out .entry)) r (now (out .exit)) ⌝ }
+    ensures { λ r. ⌜ WalkAnswered (now (image .entry)) base count list budget (now (out .entry)) r (now (out .exit)) ⌝ }
 {
-    if BUDGET_LIMIT < budget {
-        return refuse(words::BAD_BUDGET, 0, 0);
-    }
-    if COUNT_LIMIT < count {
-        return refuse(words::TOO_MANY, 0, 0);
-    }
-    let none = Counts {
-        kept: 0,
-        lists: 0,
-        entries: 0,
-    };
-    if count == 0 {
-        return WalkAnswer::Read(none);
-    }
-    let room = out.len();
-    match walk(image, base, budget, LEVELS, list, none, &mut out[..0]) {
+    match sub_key_counts(image, base, count, list, budget) {
         WalkAnswer::Refused(fault) => WalkAnswer::Refused(fault),
         WalkAnswer::Read(whole) => {
             let kept = whole.kept;
-            if room < (kept as usize) {
-                return no_room(whole);
+            let entries = whole.entries;
+            if out.len() < (kept as usize) {
+                return WalkAnswer::Refused(full(whole.lists, kept, entries));
             }
-            walk(image, base, budget, LEVELS, list, none, out);
+            if 0 < kept {
+                fill(image, base, LEVELS, list, kept == entries, out, 0);
+            }
             WalkAnswer::Read(whole)
         }
     }

@@ -31,6 +31,11 @@ by n p = tell n p 0 0 0
 abbrev pub noRoom : ℕ → ℕ → ℕ → Told
 noRoom lists places entries = tell NO-ROOM 0 lists places entries
 
+-- an answer with its values told in another way
+unfoldable pub onSuccess : {A B : Type 0} → (A → B) → Paper A → Paper B
+onSuccess f (success v) = success (f v)
+onSuccess f (refused t) = refused t
+
 -- what the code's record of a refusal tells
 abbrev pub told : Refusal → Told
 told f = by (f .number) (f .position)

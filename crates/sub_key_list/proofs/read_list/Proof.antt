@@ -12,15 +12,15 @@ returns : tie.Need-returns
 returns c =
     c .refuse .ensures ∙ list-outside _ _ (c .before .if1 .taken)
 
-sub-left : tie.Need-sub-left
-sub-left c = search needs
+bytes-from-requires : tie.Need-bytes-from-requires
+bytes-from-requires c κs = search needs
 
 refuse-requires-2 : tie.Need-refuse-requires-2
 refuse-requires-2 c κs = search needs
 
 returns-2 : tie.Need-returns-2
 returns-2 c =
-    c .refuse2 .ensures ∙ list-cut _ _ (c .before .before .if1 .left) (c .before .if2 .taken)
+    c .refuse2 .ensures ∙ list-cut _ _ (c .before .before .before .if1 .left) (c .before .before .bytes-from .ensures) (c .before .if2 .taken)
 
 add-u16-at : tie.Need-add-u16-at
 add-u16-at c = search needs
@@ -43,7 +43,7 @@ refuse-requires-3 c κs = search needs
 returns-3 : tie.Need-returns-3
 returns-3 c =
     let e = c .before .before in
-    c .refuse3 .ensures ∙ list-unknown _ _ (e .before .before .before .before .if1 .left) (e .before .before .before .if2 .left) (e .before .before .u16-at .ensures) (e .before .u16-at2 .ensures) (e .entry-size .ensures) (c .before .if3 .taken)
+    c .refuse3 .ensures ∙ list-unknown _ _ (e .before .before .before .before .before .if1 .left) (e .before .before .before .before .bytes-from .ensures) (e .before .before .before .if2 .left) (e .before .before .u16-at .ensures) (e .before .u16-at2 .ensures) (e .entry-size .ensures) (c .before .if3 .taken)
 
 cast-entries : tie.Need-cast-entries
 cast-entries c = search needs
@@ -61,17 +61,17 @@ refuse-requires-4 c κs = search needs
 returns-4 : tie.Need-returns-4
 returns-4 c =
     let e = c .before .before .before in
-    c .refuse4 .ensures ∙ list-passes _ _ (e .before .before .before .before .if1 .left) (e .before .before .before .if2 .left) (e .before .before .u16-at .ensures) (e .before .u16-at2 .ensures) (e .entry-size .ensures) (c .before .before .if3 .left) (c .before .if4 .taken)
+    c .refuse4 .ensures ∙ list-passes _ _ (e .before .before .before .before .before .if1 .left) (e .before .before .before .before .bytes-from .ensures) (e .before .before .before .if2 .left) (e .before .before .u16-at .ensures) (e .before .u16-at2 .ensures) (e .entry-size .ensures) (c .before .before .if3 .left) (c .before .if4 .taken)
 
 returns-5 : tie.Need-returns-5
 returns-5 c =
     let e = c .before .before .before in
-    list-index _ _ (e .before .before .before .before .if1 .left) (e .before .before .before .if2 .left) (e .before .before .u16-at .ensures) (e .before .u16-at2 .ensures) (e .entry-size .ensures) (c .before .before .if3 .left) (c .before .if4 .left) (c .if5 .taken)
+    list-index _ _ (e .before .before .before .before .before .if1 .left) (e .before .before .before .before .bytes-from .ensures) (e .before .before .before .if2 .left) (e .before .before .u16-at .ensures) (e .before .u16-at2 .ensures) (e .entry-size .ensures) (c .before .before .if3 .left) (c .before .if4 .left) (c .if5 .taken)
 
 returns-6 : tie.Need-returns-6
 returns-6 c =
     let e = c .before .before .before in
-    list-leaf _ _ (e .before .before .before .before .if1 .left) (e .before .before .before .if2 .left) (e .before .before .u16-at .ensures) (e .before .u16-at2 .ensures) (e .entry-size .ensures) (c .before .before .if3 .left) (c .before .if4 .left) (c .if5 .left)
+    list-leaf _ _ (e .before .before .before .before .before .if1 .left) (e .before .before .before .before .bytes-from .ensures) (e .before .before .before .if2 .left) (e .before .before .u16-at .ensures) (e .before .u16-at2 .ensures) (e .entry-size .ensures) (c .before .before .if3 .left) (c .before .if4 .left) (c .if5 .left)
 
 pub read-list-spec : {M : Type 1} → statement M
 read-list-spec =
@@ -79,7 +79,7 @@ read-list-spec =
     (tie.spec
     refuse-requires
     returns
-    sub-left
+    bytes-from-requires
     refuse-requires-2
     returns-2
     add-u16-at

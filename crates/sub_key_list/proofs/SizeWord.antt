@@ -1,0 +1,34 @@
+-- "The size word isn't used": what stands before byte 4 of a list, its size word among it, changes no answer of it. Assumes nothing.
+use mathlib.Core.Path.{_≡_, refl, ap, _∙_}
+use mathlib.Core.List.{List}
+use Prim.Native.Nat.{ℕ, zero, suc, _+_, _≤_}
+use native.Mathlib.Omega.{arith}
+use lib.ListN.{length}
+use Rattle.words.specs.Words.{byteAt, word16}
+use Rattle.words.specs.Paper.{Paper, success, refused}
+use Rattle.words.proofs.Little.{little-same}
+use Rattle.sub_key_list.specs.Lists.{Listed, leaf, index, kindAt, countAt, listAt, SameBehind}
+use Rattle.sub_key_list.specs.Leaves.{keep, leafKept, onlyLeaf, leafAt}
+
+leaf-same : (s t : List ℕ) (p base size k pos : ℕ) → SameBehind s t p → p + 4 ≤ pos → leafKept s base size k pos ≡ leafKept t base size k pos
+unfolding leafKept
+leaf-same s t p base size zero pos h l = refl
+leaf-same s t p base size (suc k) pos h l =
+    rw (little-same 4 s t pos (λ i a b. h .bytes i (omega arith)), leaf-same s t p base size k (pos + size) h (omega arith))
+
+only-same : (s t : List ℕ) (base p : ℕ) (a : Paper Listed) → SameBehind s t p → onlyLeaf s base p a ≡ onlyLeaf t base p a
+unfolding onlyLeaf
+only-same s t base p (success (leaf kind size n)) h = rw (leaf-same s t p base size n (p + 8) h (omega arith))
+only-same s t base p (success (index n)) h = refl
+only-same s t base p (refused x) h = refl
+
+module _ (s t : List ℕ) (p : ℕ) (h : SameBehind s t p) where
+  -- the list at a position
+  pub size-word-unused : listAt s p ≡ listAt t p
+  unfolding listAt
+  size-word-unused =
+      rw (h .length, little-same 2 s t (p + 4) (λ i a b. h .bytes i (omega arith)), little-same 2 s t (p + 6) (λ i a b. h .bytes i (omega arith)))
+
+  -- and what a leaf list gives
+  pub size-word-unused-leaf : (base : ℕ) → leafAt s base p ≡ leafAt t base p
+  size-word-unused-leaf base = ap (onlyLeaf s base p) size-word-unused ∙ only-same s t base p (listAt t p) h

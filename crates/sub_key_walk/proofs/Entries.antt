@@ -1,0 +1,153 @@
+-- The loops over the entries of a leaf list, over the size of an entry. Assumes nothing.
+use mathlib.Core.Path.{_≡_, refl, ap, sym, subst, _∙_}
+use mathlib.Core.List.{List, [], _∷_, _++_}
+use mathlib.Core.Bool.{Bool}
+use Prim.Native.Nat.{ℕ, suc, _+_, _-_, _*_, _≤_, _<_}
+use native.Mathlib.Nat.{sub-zero, add-zero, mul-suc}
+use native.Mathlib.Omega.{arith}
+use lib.ListN.{length, length-append, set}
+use lib.Seq.{sets, length-sets}
+use Rattle.words.specs.Words.{word32}
+use Rattle.sub_key_list.specs.Leaves.{keep, leafKept, dropOne, leafDropped}
+use Rattle.sub_key_list.proofs.Leaves.{sets-append, keep-kept, keep-dropped, keep-or-drop, kept-below, leaf-next, leaf-none, dropped-next, dropped-none}
+use Rattle.sub_key_walk.specs.Walk.{Entries, Whole, Filled}
+use Rattle.sub_key_walk.proofs.Traces.{Standing}
+
+-- ---- an entry that is left is there, and so are those behind it
+
+module _ (size n i : ℕ) (h : i < n) where
+  entries-left : size * (n - i) ≡ size * (n - (i + 1)) + size
+  entries-left = let e : n - i ≡ suc (n - (i + 1)) = omega arith in ap (λ (k : ℕ). size * k) e ∙ mul-suc size (n - (i + 1))
+
+  pub entry-there : (s : List ℕ) (at : ℕ) → 4 ≤ size → at + size * (n - i) ≤ length s → at + 4 ≤ length s
+  entry-there s at w l = omega (arith, entries-left)
+
+  pub entry-next : (s : List ℕ) (at : ℕ) → at + size * (n - i) ≤ length s → at + size + size * (n - (i + 1)) ≤ length s
+  entry-next s at l = omega (arith, entries-left)
+
+-- ---- counting: `dropped` of the first `i` are dropped, and what is left gives the rest
+
+pub record Counting (s : List ℕ) (base size n first at dropped i : ℕ) : Type 0 where
+  pub within : i ≤ n
+  pub few : dropped ≤ i
+  pub inside : at + size * (n - i) ≤ length s
+  pub counts : dropped + leafDropped s base size (n - i) at ≡ leafDropped s base size n first
+
+module _ (s : List ℕ) (base size n first : ℕ) (w : Entries s size n first) where
+  pub counting-start : Counting s base size n first first 0 0
+  counting-start =
+      let l = w .inside in
+      record { within = omega arith; few = omega arith; inside = rw sub-zero l; counts = rw sub-zero (omega arith) }
+
+  module _ (at dropped i : ℕ) (c : Counting s base size n first at dropped i) where
+    pub counting-step : i < n → {v r : ℕ} → v ≡ word32 s at → r ≡ dropOne (v + base) → Counting s base size n first (at + size) (dropped + r) (i + 1)
+    counting-step h {v} {r} e q =
+        let m = c .counts in
+        let f = c .few in
+        let d : r ≡ dropOne (word32 s at + base) = q ∙ ap (λ (x : ℕ). dropOne (x + base)) e in
+        record {
+          within = omega arith;
+          few = omega (arith, keep-or-drop (word32 s at + base));
+          inside = entry-next size n i h s at (c .inside);
+          counts = omega (arith, dropped-next s base size (n - i) (n - (i + 1)) at (omega arith));
+        }
+
+    pub counting-end : n ≤ i → dropped ≡ leafDropped s base size n first
+    counting-end h = let m = c .counts in omega (arith, dropped-none s base size (n - i) at (omega arith))
+
+-- ---- writing: what is left, written from `to` on, makes the whole row
+
+pub record Filling (s : List ℕ) (base size n first : ℕ) (old : List ℕ) (place : ℕ) (out : List ℕ) (at to i : ℕ) : Type 0 where
+  pub within : i ≤ n
+  pub inside : at + size * (n - i) ≤ length s
+  pub room : to + length (leafKept s base size (n - i) at) ≤ length out
+  pub ends : to + length (leafKept s base size (n - i) at) ≡ place + length (leafKept s base size n first)
+  pub writes : sets out to (leafKept s base size (n - i) at) ≡ sets old place (leafKept s base size n first)
+  pub long : length out ≡ length old
+
+module _ (s : List ℕ) (base size n first : ℕ) (old : List ℕ) (place : ℕ) where
+  pub filling-start : Entries s size n first → place + length (leafKept s base size n first) ≤ length old → Filling s base size n first old place old first place 0
+  filling-start w r =
+      let l = w .inside in
+      record { within = omega arith; inside = rw sub-zero l; room = rw sub-zero r; ends = rw sub-zero; writes = rw sub-zero; long = refl }
+
+  module _ (out : List ℕ) (at to i : ℕ) (f : Filling s base size n first old place out at to i) where
+    module _ (h : i < n) {v : ℕ} (e : v ≡ word32 s at) where
+      abbrev more : List ℕ
+      more = leafKept s base size (n - (i + 1)) (at + size)
+
+      split : leafKept s base size (n - i) at ≡ keep (v + base) [] ++ more
+      split = rw e (leaf-next s base size (n - i) (n - (i + 1)) at (omega arith))
+
+      split-length : length (leafKept s base size (n - i) at) ≡ length (keep (v + base) []) + length more
+      split-length = ap length split ∙ length-append (keep (v + base) []) more
+
+      -- there is a place for the next entry
+      pub filling-room : to + length (keep (v + base) []) ≤ length out
+      filling-room = let r = f .room in omega (arith, split-length)
+
+      pub filling-step : {new : List ℕ} {r : ℕ} → Filled (keep (v + base) []) out to r new → Filling s base size n first old place new (at + size) r (i + 1)
+      filling-step {new} {r} p =
+          let q = p .next in
+          let l : length new ≡ length out = ap length (p .written) ∙ length-sets out to (keep (v + base) []) in
+          let m = f .room in
+          let o = f .ends in
+          record {
+            within = omega arith;
+            inside = entry-next size n i h s at (f .inside);
+            room = omega (arith, split-length);
+            ends = omega (arith, split-length);
+            writes = rw (p .written, p .next, ← sets-append, ← split) (f .writes);
+            long = l ∙ f .long;
+          }
+
+    pub filling-end : n ≤ i → Filled (leafKept s base size n first) old place to out
+    filling-end h =
+        let z : leafKept s base size (n - i) at ≡ [] = leaf-none s base size (n - i) at (omega arith) in
+        record {
+          next = let o = f .ends in omega (arith, ap length z);
+          written = ap (λ (ks : List ℕ). sets out to ks) (sym z) ∙ f .writes;
+        }
+
+-- one entry that is kept, and one that is dropped
+pub put-kept : (v to : ℕ) (out : List ℕ) → v < 4294967296 → Filled (keep v []) out to (to + 1) (set out to v)
+put-kept v to out h = rw (keep-kept v h) (record { next = refl; written = refl })
+
+pub put-dropped : (v to : ℕ) (out : List ℕ) → 4294967296 ≤ v → Filled (keep v []) out to to out
+put-dropped v to out h = rw (keep-dropped v h) (record { next = sym (add-zero to); written = refl })
+
+-- where none is dropped: the next entry is kept, and none of the others is dropped
+module _ (s : List ℕ) (base size n at i : ℕ) (h : i < n) (z : leafDropped s base size (n - i) at ≡ 0) where
+  first-kept : dropOne (word32 s at + base) ≡ 0
+  first-kept = omega (arith, dropped-next s base size (n - i) (n - (i + 1)) at (omega arith))
+
+  pub whole-first : {v : ℕ} → v ≡ word32 s at → v + base < 4294967296
+  whole-first e = rw e (kept-below (word32 s at + base) first-kept)
+
+  pub whole-rest : leafDropped s base size (n - (i + 1)) (at + size) ≡ 0
+  whole-rest = omega (arith, dropped-next s base size (n - i) (n - (i + 1)) at (omega arith))
+
+pub whole-start : (s : List ℕ) (base size n first : ℕ) → leafDropped s base size n first ≡ 0 → leafDropped s base size (n - 0) first ≡ 0
+whole-start s base size n first z = rw sub-zero z
+
+-- ---- the loops over a leaf list that was read are called with its entry's size as a constant
+
+standing-entries : {s : List ℕ} {p size n : ℕ} → Standing s p size n → Entries s size n (p + 8)
+standing-entries x = record { word = x .word; inside = x .entries }
+
+module _ (s : List ℕ) (base p size n : ℕ) (x : Standing s p size n) (w : ℕ) (e : size ≡ w) where
+  pub dropped-asks : Entries s w n (p + 8)
+  dropped-asks = subst (λ (z : ℕ). Entries s z n (p + 8)) e (standing-entries x)
+
+  pub dropped-told : {r : ℕ} → r ≡ leafDropped s base w n (p + 8) → r ≡ leafDropped s base size n (p + 8)
+  dropped-told q = q ∙ ap (λ (z : ℕ). leafDropped s base z n (p + 8)) (sym e)
+
+  pub fill-asks : (whole : Bool) (old : List ℕ) (place : ℕ) → Whole s base size n (p + 8) whole → place + length (leafKept s base size n (p + 8)) ≤ length old
+      → Entries s w n (p + 8) × (Whole s base w n (p + 8) whole × (place + length (leafKept s base w n (p + 8)) ≤ length old))
+  fill-asks whole old place a b =
+      subst (λ (z : ℕ). Entries s z n (p + 8) × (Whole s base z n (p + 8) whole × (place + length (leafKept s base z n (p + 8)) ≤ length old))) e
+      (standing-entries x, (a, b))
+
+  pub fill-told : (old : List ℕ) (place : ℕ) {r : ℕ} {new : List ℕ} → Filled (leafKept s base w n (p + 8)) old place r new
+      → Filled (leafKept s base size n (p + 8)) old place r new
+  fill-told old place {r} {new} f = subst (λ (z : ℕ). Filled (leafKept s base z n (p + 8)) old place r new) (sym e) f

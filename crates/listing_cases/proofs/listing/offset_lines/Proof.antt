@@ -8,10 +8,10 @@ use Rattle.listing_cases.proofs.listing.offset_lines.Lts as lts
 use Rattle.listing_cases.proofs.listing.offset_line.Reads as offset-line-reads
 
 abbrev Inv-loop : tie.InvT-loop
-Inv-loop out n i₀ i = i ≤ length out
+Inv-loop out n i₀ taken₀ i taken = i ≤ length out
 
 abbrev μ-loop : tie.MeasureT-loop
-μ-loop out n i₀ i = length out - i
+μ-loop out n i₀ taken₀ i taken = length out - i
 
 loop-holds : tie.Need-loop-holds Inv-loop μ-loop
 loop-holds c = search needs

@@ -1,0 +1,193 @@
+// README.md's row of calls for an integrator, on the hives of data/: a short function for each step, to be copied. Every answer is
+// taken apart by `match`, and the first refusal ends a step with its number and position.
+use base_block::BlockAnswer;
+use cell_key_node::KeyAnswer;
+use cell_key_node::KeyNode;
+use cell_key_node::ValueListAnswer;
+use cell_key_value::LookupAnswer;
+use cell_key_value::ValueAnswer;
+use hive_bin::BinsAnswer;
+use sub_key_walk::WalkAnswer;
+
+// Where the bins begin, the most lists that the walk reads, and the most subkeys that are visited.
+const BASE: u32 = 4096;
+
+const BUDGET: u32 = 1024;
+
+const FEW: u32 = 3;
+
+fn say(s: &[u8]) {
+    io::write_all(1, s);
+}
+
+fn number(n: u64) {
+    say(b" ");
+    io::print_decimal(1, n);
+}
+
+fn line() {
+    say(b"\n");
+}
+
+// A record by its position and its name.
+fn named(position: usize, name: &[u8]) {
+    number(position as u64);
+    say(b" ");
+    say(name);
+}
+
+fn refused(n: u32, position: usize) {
+    say(b" refused");
+    number(n as u64);
+    number(position as u64);
+    line();
+}
+
+// Step 7: one value by its name.
+fn lookup(image: &[u8], key: KeyNode, name: &[u8]) {
+    say(b"  lookup");
+    match cell_key_value::find_value_of(image, BASE, key, name) {
+        LookupAnswer::Refused(f) => refused(f.number, f.position),
+        LookupAnswer::Found(found) => {
+            let position = found.position;
+            named(position, cell_key_value::value_name(image, position));
+            line();
+        }
+    }
+}
+
+// Step 6: a value record and its name. A value list gives offsets as they are stored, without the base.
+fn value(image: &[u8], offset: u32) {
+    let position = offset as usize + BASE as usize;
+    say(b"  value");
+    match cell_key_value::read_key_value(image, position) {
+        ValueAnswer::Refused(f) => refused(f.number, f.position),
+        ValueAnswer::Value(v) => {
+            named(position, cell_key_value::value_name(image, position));
+            number(v.data_type_raw as u64);
+            number(v.data_size_raw as u64);
+            line();
+        }
+    }
+}
+
+fn each_value(image: &[u8], out: &[u32], n: u32) {
+    let mut i: usize = 0;
+    while i < out.len() {
+        if n as usize <= i {
+            return;
+        }
+        value(image, out[i]);
+        i += 1;
+    }
+}
+
+// Step 5: the value list of a key, into a lent buffer.
+fn values(image: &[u8], key: KeyNode) {
+    let mut out = [0u32; 16];
+    match cell_key_node::value_list_of(image, BASE, key, &mut out) {
+        ValueListAnswer::Refused(f) => refused(f.number, f.position),
+        ValueListAnswer::Listed(n) => each_value(image, &out, n),
+    }
+}
+
+// A subkey: its record and name, its values, and one of them by name. A walk gives positions, with the base in them.
+fn sub_key(image: &[u8], offset: u32) {
+    let position = offset as usize;
+    say(b" key");
+    match cell_key_node::read_key_node(image, position) {
+        KeyAnswer::Refused(f) => refused(f.number, f.position),
+        KeyAnswer::Key(key) => {
+            named(position, cell_key_node::key_name(image, position));
+            line();
+            values(image, key);
+            lookup(image, key, b"VALUE1");
+        }
+    }
+}
+
+fn each_sub_key(image: &[u8], out: &[u32], n: u32) {
+    let mut i: usize = 0;
+    while i < out.len() {
+        if n as usize <= i {
+            return;
+        }
+        sub_key(image, out[i]);
+        i += 1;
+    }
+}
+
+// Step 4: the subkeys of a key, into a lent buffer; the first few are visited.
+fn sub_keys(image: &[u8], key: KeyNode) {
+    let mut out = [0u32; 64];
+    match cell_key_node::sub_keys_of(image, BASE, key, BUDGET, &mut out) {
+        WalkAnswer::Refused(f) => refused(f.number, f.position),
+        WalkAnswer::Read(c) => {
+            number(c.kept as u64);
+            line();
+            let few = if c.kept < FEW { c.kept } else { FEW };
+            each_sub_key(image, &out, few);
+        }
+    }
+}
+
+// Step 3: the root key, at the root offset plus the base. The offset is signed, and a negative one is refused by 2.
+fn root(image: &[u8], offset: i32) {
+    say(b" root");
+    if offset < 0 {
+        refused(words::OUTSIDE, 0);
+        return;
+    }
+    let position = words::above_zero(offset) as usize + BASE as usize;
+    match cell_key_node::read_key_node(image, position) {
+        KeyAnswer::Refused(f) => refused(f.number, f.position),
+        KeyAnswer::Key(key) => {
+            named(position, cell_key_node::key_name(image, position));
+            sub_keys(image, key);
+        }
+    }
+}
+
+// Step 2: bins and cells, before anything in them is believed.
+fn bins(image: &[u8], size: u32, root_offset: i32) {
+    say(b" bins");
+    match hive_bin::check_bins(image, BASE, size) {
+        BinsAnswer::Refused(f) => refused(f.number, f.position),
+        BinsAnswer::Totals(t) => {
+            number(t.bins as u64);
+            line();
+            root(image, root_offset);
+        }
+    }
+}
+
+// Step 1: the base block, which tells the bins' size and where the root key is.
+fn tour(image: &[u8]) {
+    match base_block::read_base_block(image) {
+        BlockAnswer::Refused(f) => refused(f.number, f.position),
+        BlockAnswer::Block(b) => bins(image, b.hive_bins_data_size, b.root_cell_offset),
+    }
+}
+
+fn hive(path: &[u8]) {
+    say(path);
+    line();
+    let fd = os::open_read(path);
+    if fd < 0 {
+        say(b" is not there\n");
+        return;
+    }
+    let mut buffer = io::large_buffer();
+    let n = io::read_full(fd, &mut buffer);
+    libc::close(fd);
+    tour(&buffer[..n]);
+}
+
+fn main() {
+    hive(b"samba-1.1-3k-2v.hive");
+    hive(b"samba-1.3-40k-3v.hive");
+    hive(b"samba-1.5-3k-2v.hive");
+    hive(b"samba-1.1-3k-2v-repaired.hive");
+    hive(b"samba-1.3-40k-3v-repaired.hive");
+    hive(b"samba-1.5-3k-2v-repaired.hive");
+}

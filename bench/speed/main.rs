@@ -160,7 +160,7 @@ fn rows(turns: usize) -> Vec<Row> {
     for wide in [1, 2] {
         let mut b = Build::new(4096);
         let mut level: Vec<u32> = (0..(wide as usize).pow(7)).map(|_| b.leaf(b"lh", 16)).collect();
-        while level.len() > 1 || b.image.len() < 4096 + 136 + 7 * 12 {
+        for _ in 0..7 {
             level = level.chunks(wide).map(|c| b.list(b"ri", c.to_vec().into_iter())).collect();
         }
         add(format!("eight levels, {wide} named in each `ri`, `lh` of 16"), b.case(level[0]), turns);

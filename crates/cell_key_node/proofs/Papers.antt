@@ -1,8 +1,11 @@
 -- The promises fix the answers: two answers that say the same are the same. Assumes nothing.
-use mathlib.Core.Path.{_≡_, ap}
+use mathlib.Core.Path.{_≡_, refl, ap}
 use Rattle.words.proofs.Papers.{success-refused, refused-success, same-success, same-told, same-refusal}
+use Rattle.cell_key_node.specs.Records.{recordPaper}
 use Rattle.cell_key_node.specs.Key.{keyPaper}
 use Rattle.cell_key_node.specs.ValueList.{placePaper, toldOfList, valueListPaper}
+use Rattle.cell_key_node.specs.declared.RecordAnswer.{RecordAnswer}
+use Rattle.cell_key_node.specs.declared.RecordAnswer.the-variants.{Whole, Refused as NoRecord}
 use Rattle.cell_key_node.specs.declared.KeyAnswer.{KeyAnswer}
 use Rattle.cell_key_node.specs.declared.KeyAnswer.the-variants.{Key, Refused as NoKey}
 use Rattle.cell_key_node.specs.declared.PlaceAnswer.{PlaceAnswer}
@@ -10,6 +13,12 @@ use Rattle.cell_key_node.specs.declared.PlaceAnswer.the-variants.{Place,
 use Rattle.cell_key_node.specs.declared.ListRefusal.{ListRefusal}
 use Rattle.cell_key_node.specs.declared.ValueListAnswer.{ValueListAnswer}
 use Rattle.cell_key_node.specs.declared.ValueListAnswer.the-variants.{Listed, Refused as NoList}
+
+pub record-injective : (r t : RecordAnswer) → recordPaper r ≡ recordPaper t → r ≡ t
+record-injective Whole Whole e = refl
+record-injective Whole (NoRecord f) e = absurd (success-refused e)
+record-injective (NoRecord f) Whole e = absurd (refused-success e)
+record-injective (NoRecord f) (NoRecord g) e = ap NoRecord (same-refusal (same-told e))
 
 pub key-injective : (r t : KeyAnswer) → keyPaper r ≡ keyPaper t → r ≡ t
 key-injective (Key k) (Key l) e = ap Key (same-success e)

@@ -5,7 +5,7 @@ ghost use Prim.Native.Nat.{_≤_};
 ghost use mathlib.Core.List.{_++_};
 ghost use lib.ListN.{length, drop};
 ghost use Rattle.words.specs.Parts.{Part};
-ghost use Rattle.cell_key_node.specs.Records.{sizeOf, cellFault, faultAt};
+ghost use Rattle.cell_key_node.specs.Records.{sizeOf, cellFault, faultAt, recordAt, recordPaper};
 ghost use Rattle.cell_key_node.specs.Key.{keyOf, keyAt, keyPaper, keyName, keyNameAt, keySlack, keySlackAt};
 ghost use Rattle.cell_key_node.specs.ValueList.{placeOf, placePaper, upTo, entryOf, Answered};
 ghost use Rattle.sub_key_walk.specs.Answers.{Answered as Walked};
@@ -43,6 +43,12 @@ pub struct KeyNode {
     pub work_var: u32,
     pub key_name_size: u16,
     pub class_name_size: u16,
+}
+
+// A record passes the checks, or is refused.
+pub enum RecordAnswer {
+    Whole,
+    Refused(Refusal),
 }
 
 // The record, or why there is none.
@@ -106,13 +112,7 @@ fn cell_fault(cell: &[u8], fixed: usize, signature: u16, name_at: usize) -> u32
 
 // The first check that the record at a position fails, by the number of its refusal, or 0: of a record with so large a fixed
 // part, a signature, and the length of its name at a place of it.
-pub fn record_fault(
-    image: &[u8],
-    position: usize,
-    fixed: usize,
-    signature: u16,
-    name_at: usize,
-) -> u32
+fn record_fault(image: &[u8], position: usize, fixed: usize, signature: u16, name_at: usize) -> u32
     ensures { λ r. ⌜ r ≡ faultAt (now (image .entry)) position fixed signature «name_at» ⌝ }
 {
     if image.len() < position {
@@ -120,6 +120,27 @@ pub fn record_fault(
     }
     let cell = words::from(image, position);
     cell_fault(cell, fixed, signature, name_at)
+}
+
+// The checks of the record at a position, for records of both kinds: the first that fails refuses it, at its position.
+pub fn check_record(
+    image: &[u8],
+    position: usize,
+    fixed: usize,
+    signature: u16,
+    name_at: usize,
+) -> RecordAnswer
+    ensures { λ r. ⌜ recordPaper r ≡ recordAt (now (image .entry)) position fixed signature «name_at» ⌝ }
+{
+    let fault = record_fault(image, position, fixed, signature, name_at);
+    if fault == 0 {
+        RecordAnswer::Whole
+    } else {
+        RecordAnswer::Refused(Refusal {
+            number: fault,
+            position: position,
+        })
+    }
 }
 
 // The numbers of a key record's cell.
@@ -156,16 +177,13 @@ fn key_in(cell: &[u8]) -> KeyNode
 pub fn read_key_node(image: &[u8], position: usize) -> KeyAnswer
     ensures { λ r. ⌜ keyPaper r ≡ keyAt (now (image .entry)) position ⌝ }
 {
-    let fault = record_fault(image, position, FIXED, SIGNATURE, NAME_SIZE_AT);
-    if fault == 0 {
-        let cell = words::from(image, position);
-        let key = key_in(cell);
-        KeyAnswer::Key(key)
-    } else {
-        KeyAnswer::Refused(Refusal {
-            number: fault,
-            position: position,
-        })
+    match check_record(image, position, FIXED, SIGNATURE, NAME_SIZE_AT) {
+        RecordAnswer::Refused(refusal) => KeyAnswer::Refused(refusal),
+        RecordAnswer::Whole => {
+            let cell = words::from(image, position);
+            let key = key_in(cell);
+            KeyAnswer::Key(key)
+        }
     }
 }
 
@@ -173,13 +191,13 @@ pub fn read_key_node(image: &[u8], position: usize) -> KeyAnswer
 pub fn key_name(image: &[u8], position: usize) -> &[u8]
     ensures { λ r. ⌜ Part (image .entry) r (keyNameAt (now (image .entry)) position) (keyName (now (image .entry)) position) ⌝ }
 {
-    let fault = record_fault(image, position, FIXED, SIGNATURE, NAME_SIZE_AT);
-    if fault == 0 {
-        let cell = words::from(image, position);
-        let size = words::u16_at(cell, NAME_SIZE_AT) as usize;
-        words::part(cell, FIXED, size)
-    } else {
-        &image[0..0]
+    match check_record(image, position, FIXED, SIGNATURE, NAME_SIZE_AT) {
+        RecordAnswer::Refused(_) => &image[0..0],
+        RecordAnswer::Whole => {
+            let cell = words::from(image, position);
+            let size = words::u16_at(cell, NAME_SIZE_AT) as usize;
+            words::part(cell, FIXED, size)
+        }
     }
 }
 
@@ -187,16 +205,16 @@ pub fn key_name(image: &[u8], position: usize) -> &[u8]
 pub fn key_slack(image: &[u8], position: usize) -> &[u8]
     ensures { λ r. ⌜ Part (image .entry) r (keySlackAt (now (image .entry)) position) (keySlack (now (image .entry)) position) ⌝ }
 {
-    let fault = record_fault(image, position, FIXED, SIGNATURE, NAME_SIZE_AT);
-    if fault == 0 {
-        let cell = words::from(image, position);
-        let size = size_of(cell) as usize;
-        let whole = words::part(cell, 0, size);
-        let name = words::u16_at(cell, NAME_SIZE_AT) as usize;
-        let end = FIXED + name;
-        words::from(whole, end)
-    } else {
-        &image[0..0]
+    match check_record(image, position, FIXED, SIGNATURE, NAME_SIZE_AT) {
+        RecordAnswer::Refused(_) => &image[0..0],
+        RecordAnswer::Whole => {
+            let cell = words::from(image, position);
+            let size = size_of(cell) as usize;
+            let whole = words::part(cell, 0, size);
+            let name = words::u16_at(cell, NAME_SIZE_AT) as usize;
+            let end = FIXED + name;
+            words::from(whole, end)
+        }
     }
 }
 

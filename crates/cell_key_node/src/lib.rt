@@ -7,7 +7,7 @@ ghost use lib.ListN.{length, drop};
 ghost use Rattle.words.specs.Parts.{Part};
 ghost use Rattle.cell_key_node.specs.Records.{sizeOf, cellFault, faultAt, recordAt, recordPaper};
 ghost use Rattle.cell_key_node.specs.Key.{keyOf, keyAt, keyPaper, keyName, keyNameAt, keySlack, keySlackAt};
-ghost use Rattle.cell_key_node.specs.ValueList.{placeOf, placePaper, upTo, entryOf, Answered};
+ghost use Rattle.cell_key_node.specs.ValueList.{placeOf, placePaper, upTo, entryOf, ListAnswered};
 ghost use Rattle.sub_key_walk.specs.Answers.{Answered as Walked};
 use sub_key_walk::COUNT_LIMIT;
 use sub_key_walk::WalkAnswer;
@@ -57,8 +57,9 @@ pub enum KeyAnswer {
     Refused(Refusal),
 }
 
-// The position of a value list, or why there is none.
+// Nothing for a count of 0, the position of a value list, or why there is none.
 pub enum PlaceAnswer {
+    Nothing,
     Place(usize),
     Refused(Refusal),
 }
@@ -218,10 +219,13 @@ pub fn key_slack(image: &[u8], position: usize) -> &[u8]
     }
 }
 
-// Where the value list of a count above 0 stands, its size word and all its entries within the image.
+// Where the value list of a key record stands, its size word and all its entries within the image; a count of 0 has no list.
 pub fn value_list_place(image: &[u8], base: u32, count: u32, offset: i32) -> PlaceAnswer
     ensures { λ r. ⌜ placePaper r ≡ placeOf (now (image .entry)) base count offset ⌝ }
 {
+    if count == 0 {
+        return PlaceAnswer::Nothing;
+    }
     let relative = words::above_zero(offset) as usize;
     let place = relative + base as usize;
     if relative == 0 {
@@ -280,12 +284,10 @@ pub fn value_list(
     offset: i32,
     out: &mut [u32],
 ) -> ValueListAnswer
-    ensures { λ r. ⌜ Answered (now (image .entry)) base count offset (now (out .entry)) r (now (out .exit)) ⌝ }
+    ensures { λ r. ⌜ ListAnswered (now (image .entry)) base count offset (now (out .entry)) r (now (out .exit)) ⌝ }
 {
-    if count == 0 {
-        return ValueListAnswer::Listed(0);
-    }
     match value_list_place(image, base, count, offset) {
+        PlaceAnswer::Nothing => ValueListAnswer::Listed(0),
         PlaceAnswer::Refused(refusal) => ValueListAnswer::Refused(ListRefusal {
             number: refusal.number,
             position: refusal.position,
@@ -308,7 +310,7 @@ pub fn value_list(
 
 // The value list of a key record, from the record.
 pub fn value_list_of(image: &[u8], base: u32, key: KeyNode, out: &mut [u32]) -> ValueListAnswer
-    ensures { λ r. ⌜ Answered (now (image .entry)) base (key .«number_of_key_values») (key .«key_values_list_offset_relative») (now (out .entry)) r (now (out .exit)) ⌝ }
+    ensures { λ r. ⌜ ListAnswered (now (image .entry)) base (key .«number_of_key_values») (key .«key_values_list_offset_relative») (now (out .entry)) r (now (out .exit)) ⌝ }
 {
     let count = key.number_of_key_values;
     let offset = key.key_values_list_offset_relative;

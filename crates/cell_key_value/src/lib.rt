@@ -182,13 +182,11 @@ fn find_in(image: &[u8], list: &[u8], base: u32, count: u32, name: &[u8]) -> Loo
 pub fn find_value(image: &[u8], base: u32, count: u32, offset: i32, name: &[u8]) -> LookupAnswer
     ensures { λ r. ⌜ lookupPaper r ≡ lookupOf (now (image .entry)) base count offset (now (name .entry)) ⌝ }
 {
-    if count == 0 {
-        return LookupAnswer::Refused(Refusal {
+    match cell_key_node::value_list_place(image, base, count, offset) {
+        PlaceAnswer::Nothing => LookupAnswer::Refused(Refusal {
             number: words::NOT_FOUND,
             position: 0,
-        });
-    }
-    match cell_key_node::value_list_place(image, base, count, offset) {
+        }),
         PlaceAnswer::Place(place) => {
             let list = words::from(image, place);
             find_in(image, list, base, count, name)

@@ -157,7 +157,8 @@ fn find_in(image: &[u8], list: &[u8], base: u32, count: u32, name: &[u8]) -> Loo
     let mut i: u32 = 0;
     while i < count {
         let entry = words::u32_at(list, 4 + 4 * (i as usize));
-        let position = entry as usize + base as usize;
+        let relative = entry as usize;
+        let position = relative + base as usize;
         let answer = read_key_value(image, position);
         let ValueAnswer::Value(value) = answer else {
             let refusal = refusal_of(answer);

@@ -10,20 +10,16 @@ use Rattle.base_block.proofs.read_base_block.Lts as lts
 use Rattle.base_block.proofs.fault.Reads as fault-reads
 use Rattle.base_block.proofs.fields.Reads as fields-reads
 
--- src/lib.rt:159:9
 fault-requires : tie.Need-fault-requires
 fault-requires c κs = search needs
 
--- src/lib.rt:161:28
 fields-requires : tie.Need-fields-requires
 fields-requires c κs = search needs
 
--- src/lib.rt:156:1
 returns : tie.Need-returns
 unfolding blockOf
 returns c = rw (← c .before .before .fault .ensures) (ap success (c .fields .ensures) ∙ sym (checked-good _ _ _ (c .before .if1 .taken)))
 
--- src/lib.rt:156:1
 returns-2 : tie.Need-returns-2
 unfolding blockOf
 returns-2 c = rw (← c .before .fault .ensures) (sym (checked-bad _ _ _ (c .if1 .left)))

@@ -16,32 +16,25 @@ Inv-loop s x₀ i₀ x i = (i ≤ 127) × (x ≡ xorOf s i)
 abbrev μ-loop : tie.MeasureT-loop
 μ-loop s x₀ i₀ x i = 127 - i
 
--- src/lib.rt:19:5
 loop-holds : tie.Need-loop-holds Inv-loop μ-loop
 unfolding xorOf
 loop-holds c = search needs
 
--- src/lib.rt:20:34
 mul-u32-at : tie.Need-mul-u32-at Inv-loop μ-loop
 mul-u32-at c = search needs
 
--- src/lib.rt:20:17
 u32-at-requires : tie.Need-u32-at-requires Inv-loop μ-loop
 u32-at-requires c κs = search needs
 
--- src/lib.rt:21:9
 add-i : tie.Need-add-i Inv-loop μ-loop
 add-i c = search needs
 
--- src/lib.rt:19:5
 loop-less : tie.Need-loop-less Inv-loop μ-loop
 loop-less c = search needs
 
--- src/lib.rt:19:5
 loop-again : tie.Need-loop-again Inv-loop μ-loop
 loop-again c = (search needs, cc (xor-more (c .before .before .before .before .args .s .now) (c .before .before .loop .i)))
 
--- src/lib.rt:14:1
 returns : tie.Need-returns Inv-loop μ-loop
 returns c = let e : c .before .loop .i ≡ 127 = omega arith in cc
 

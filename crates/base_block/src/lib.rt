@@ -1,6 +1,7 @@
 // The base block of a hive, its first 4,096 bytes, and its checksum.
 ghost use mathlib.Core.Path.{_≡_};
 ghost use Prim.Native.Nat.{_≤_};
+ghost use lib.ListN.{length};
 ghost use Rattle.words.specs.Parts.{Part};
 ghost use Rattle.base_block.specs.Checksum.{xorOf, mended, checksumOf};
 ghost use Rattle.base_block.specs.Block.{typeOf, formatOf, fieldsOf, headFault, blockOf, partOf, partAt};
@@ -12,14 +13,15 @@ pub enum Checksum {
     Refused(Refusal),
 }
 
-// The XOR of the 127 words of bytes 0 to 507.
+// The XOR of the 127 words of bytes 0 to 507, which are there: read by plain indexes, several words at a step.
 fn xor_words(s: &[u8]) -> u32
+    requires { ⌜ 508 ≤ length (now s) ⌝ }
     ensures { λ r. ⌜ r ≡ xorOf (now (s .entry)) 127 ⌝ }
 {
     let mut x: u32 = 0;
     let mut i: usize = 0;
     while i < 127 {
-        x = x ^ words::u32_at(s, 4 * i);
+        x = x ^ words::join4(s[4 * i], s[4 * i + 1], s[4 * i + 2], s[4 * i + 3]);
         i += 1;
     }
     x
@@ -112,6 +114,7 @@ fn file_format(raw: u32) -> FileFormat
 }
 
 fn fields(s: &[u8]) -> BaseBlock
+    requires { ⌜ 508 ≤ length (now s) ⌝ }
     ensures { λ r. ⌜ r ≡ fieldsOf (now (s .entry)) ⌝ }
 {
     let file_type_raw = words::u32_at(s, 28);

@@ -1,7 +1,9 @@
 use mathlib.Core.Path.{sym, ap, _∙_}
+use native.Mathlib.Omega.{arith}
 use Rattle.words.specs.Paper.{success}
 use Rattle.words.proofs.Papers.{checked-good, checked-bad}
 use Rattle.base_block.specs.Block.{blockOf}
+use Rattle.base_block.proofs.Parts.{head-long}
 use borrow.Author.Needs.{needs}
 use Rattle.base_block.proofs.read_base_block.Statement.{statement}
 use Rattle.base_block.proofs.read_base_block.Tie as tie
@@ -14,7 +16,7 @@ fault-requires : tie.Need-fault-requires
 fault-requires c κs = search needs
 
 fields-requires : tie.Need-fields-requires
-fields-requires c κs = search needs
+fields-requires c κs = omega (arith, head-long 4096 (c .before .before .before .args .image .now) (sym (c .before .fault .ensures) ∙ c .if1 .taken))
 
 returns : tie.Need-returns
 unfolding blockOf

@@ -114,7 +114,7 @@ fieldsOf s = joined (firstOf s) (extensionOf s)
 abbrev pub regf : ℕ
 regf = 0x6667_6572
 
--- "Length is checked before signature": of what has a least length
+-- "Length is checked before signature": SHORT under a least length, BAD SIGN where the first bytes are not "regf"
 unfoldable pub headFault : ℕ → List ℕ → ℕ
 headFault least s = cond (ltb (length s) least) SHORT (cond (eqb (word32 s 0) regf) 0 BAD-SIGN)
 

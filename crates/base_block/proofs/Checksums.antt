@@ -8,14 +8,17 @@ use native.Mathlib.Omega.{arith}
 use lib.Bits.{bitXor, xor-lt}
 use lib.Dec.{eqb}
 use borrow.Author.Tests.{eqb-false}
-use Rattle.words.specs.Words.{word32}
-use Rattle.words.proofs.Little.{Bytes, little-lt}
+use Rattle.words.specs.Words.{byteAt, word32}
+use Rattle.words.proofs.Little.{Bytes, little-lt, little-4}
 use Rattle.base_block.specs.Checksum.{xorOf, mended, sumOf}
 
--- one word more
-pub xor-more : (s : List ℕ) (n : ℕ) → xorOf s (n + 1) ≡ bitXor (xorOf s n) (word32 s (4 * n))
+-- one word more, given by its bytes
+pub xor-more :
+    (s : List ℕ) (n w : ℕ)
+    → w ≡ byteAt s (4 * n) + 256 * byteAt s (4 * n + 1) + 65536 * byteAt s (4 * n + 2) + 16777216 * byteAt s (4 * n + 3)
+    → bitXor (xorOf s n) w ≡ xorOf s (n + 1)
 unfolding xorOf
-xor-more s n = rw add-one
+xor-more s n w e = rw (e, ← little-4 s (4 * n), add-one)
 
 xor-range : (s : List ℕ) → Bytes s → (n : ℕ) → xorOf s n < 2 ^ 32
 unfolding xorOf

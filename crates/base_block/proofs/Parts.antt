@@ -8,21 +8,21 @@ use lib.ListN.{length}
 use borrow.Author.Tests.{lt-ltb}
 use Rattle.words.specs.Parts.{startOf, Lies}
 use Rattle.words.proofs.Parts.{lies-part, lies-handed}
-use Rattle.base_block.specs.Block.{faultOf, partOf, partAt}
+use Rattle.base_block.specs.Block.{headFault, faultOf, partOf, partAt}
 
--- an image that holds a base block has its 4,096 bytes
-pub block-long : (s : List ℕ) → faultOf s ≡ 0 → 4096 ≤ length s
-unfolding faultOf
-block-long s e = go (decLe 4096 (length s))
+-- what passes the checks has its least length
+pub head-long : (least : ℕ) (s : List ℕ) → headFault least s ≡ 0 → least ≤ length s
+unfolding headFault
+head-long least s e = go (decLe least (length s))
   where
-    go : Dec (4096 ≤ length s) → 4096 ≤ length s
+    go : Dec (least ≤ length s) → least ≤ length s
     go (yes h) = h
-    go (no h) = let z : _≡_ {A = ℕ} 1 0 = simp (lt-ltb (length s) 4096 (omega arith)) at e in absurd (omega arith)
+    go (no h) = let z : _≡_ {A = ℕ} 1 0 = simp (lt-ltb (length s) least (omega arith)) at e in absurd (omega arith)
 
 pub in-block : (s : List ℕ) (i : ℕ) → faultOf s ≡ 0 → i ≤ 4096 → startOf s i ≡ i
-in-block s i e h = let l = block-long s e in omega arith
+in-block s i e h = let l = head-long 4096 s e in omega arith
 
 -- the bytes that are said of a part of the block are those that stand at its place
 pub part-lies : (s : List ℕ) (i n : ℕ) → i ≤ 4096 → Lies s (partAt s i) (partOf s i n)
 unfolding partOf partAt
-part-lies s i n h = lies-handed s (faultOf s) i _ (λ e. let l = block-long s e in lies-part s i n (omega arith))
+part-lies s i n h = lies-handed s (faultOf s) i _ (λ e. let l = head-long 4096 s e in lies-part s i n (omega arith))

@@ -1,9 +1,10 @@
 // The base block of a hive, its first 4,096 bytes, and its checksum.
 ghost use mathlib.Core.Path.{_≡_};
 ghost use Prim.Native.Nat.{_≤_};
+ghost use lib.ListN.{length};
 ghost use Rattle.words.specs.Parts.{Part};
 ghost use Rattle.base_block.specs.Checksum.{xorOf, mended, checksumOf};
-ghost use Rattle.base_block.specs.Block.{typeOf, formatOf, fieldsOf, faultOf, blockOf, partOf, partAt};
+ghost use Rattle.base_block.specs.Block.{typeOf, formatOf, fieldsOf, headFault, blockOf, partOf, partAt};
 ghost use Rattle.base_block.specs.Answers.{sumPaper, blockPaper};
 use words::Refusal;
 
@@ -12,14 +13,15 @@ pub enum Checksum {
     Refused(Refusal),
 }
 
-// The XOR of the 127 words of bytes 0 to 507.
+// The XOR of the 127 words of bytes 0 to 507, which are there: read by plain indexes, several words at a step.
 fn xor_words(s: &[u8]) -> u32
+    requires { ⌜ 508 ≤ length (now s) ⌝ }
     ensures { λ r. ⌜ r ≡ xorOf (now (s .entry)) 127 ⌝ }
 {
     let mut x: u32 = 0;
     let mut i: usize = 0;
     while i < 127 {
-        x = x ^ words::u32_at(s, 4 * i);
+        x = x ^ words::join4(s[4 * i], s[4 * i + 1], s[4 * i + 2], s[4 * i + 3]);
         i += 1;
     }
     x
@@ -83,6 +85,9 @@ pub struct BaseBlock {
     pub boot_recover: u32,
 }
 
+// The length of a base block.
+const BLOCK_SIZE: usize = 4096;
+
 pub enum BlockAnswer {
     Block(BaseBlock),
     Refused(Refusal),
@@ -109,6 +114,7 @@ fn file_format(raw: u32) -> FileFormat
 }
 
 fn fields(s: &[u8]) -> BaseBlock
+    requires { ⌜ 508 ≤ length (now s) ⌝ }
     ensures { λ r. ⌜ r ≡ fieldsOf (now (s .entry)) ⌝ }
 {
     let file_type_raw = words::u32_at(s, 28);
@@ -139,11 +145,11 @@ fn fields(s: &[u8]) -> BaseBlock
     }
 }
 
-// The number of the first check that fails, 0 where none does.
-fn fault(image: &[u8]) -> u32
-    ensures { λ r. ⌜ r ≡ faultOf (now (image .entry)) ⌝ }
+// The number of the first check that fails, 0 where none does, of what has a least length.
+fn fault(image: &[u8], least: usize) -> u32
+    ensures { λ r. ⌜ r ≡ headFault least (now (image .entry)) ⌝ }
 {
-    if image.len() < 4096 {
+    if image.len() < least {
         return words::SHORT;
     }
     let signature = words::u32_at(image, 0);
@@ -158,7 +164,7 @@ fn fault(image: &[u8]) -> u32
 pub fn read_base_block(image: &[u8]) -> BlockAnswer
     ensures { λ r. ⌜ blockPaper r ≡ blockOf (now (image .entry)) ⌝ }
 {
-    let number = fault(image);
+    let number = fault(image, BLOCK_SIZE);
     if number == 0 {
         BlockAnswer::Block(fields(image))
     } else {
@@ -174,7 +180,7 @@ fn block_part(image: &[u8], at: usize, n: usize) -> &[u8]
     requires { ⌜ at ≤ 4096 ⌝ }
     ensures { λ r. ⌜ Part (image .entry) r (partAt (now (image .entry)) at) (partOf (now (image .entry)) at n) ⌝ }
 {
-    let number = fault(image);
+    let number = fault(image, BLOCK_SIZE);
     if number == 0 {
         words::part(image, at, n)
     } else {

@@ -1,20 +1,13 @@
 -- "true exactly when bytes 4 and 5 exist and are `db`", both ways. Assumes nothing.
-use mathlib.Core.Path.{_≡_, refl}
+use mathlib.Core.Path.{_≡_, refl, sym}
 use mathlib.Core.List.{List}
 use mathlib.Core.Bool.{Bool, true, false, cond, true≢false}
-use mathlib.Core.Path.{sym}
-use Prim.Native.Nat.{ℕ, _≤_}
-use native.Mathlib.Omega.{arith}
+use Prim.Native.Nat.{ℕ}
 use lib.ListN.{length}
 use lib.Dec.{ltb, eqb}
 use borrow.Author.Tests.{ltb-false, eqb-true, le-ltb, eq-eqb}
 use Rattle.words.specs.Words.{byteAt}
-use Rattle.cell_big_data.specs.Big.{isBigDataBlock}
-
-pub record BigData (s : List ℕ) : Type 0 where
-  pub there : 6 ≤ length s
-  pub first : byteAt s 4 ≡ 100
-  pub second : byteAt s 5 ≡ 98
+use Rattle.cell_big_data.specs.Big.{isBigDataBlock, BigData, Exactly}
 
 pub big-only : (s : List ℕ) → isBigDataBlock s ≡ true → BigData s
 unfolding isBigDataBlock
@@ -28,3 +21,6 @@ big-only s e = go (ltb (length s) 6) (eqb (byteAt s 4) 100) refl refl e
 pub big-if : (s : List ℕ) → BigData s → isBigDataBlock s ≡ true
 unfolding isBigDataBlock
 big-if s b = simp (le-ltb (length s) 6 (b .there), eq-eqb _ _ (b .first), eq-eqb _ _ (b .second))
+
+pub big-exactly : (s : List ℕ) → Exactly s
+big-exactly s = (big-only s, big-if s)

@@ -1,7 +1,7 @@
--- The five checks of a record: each number is given exactly when its sentence holds, for a record of any fixed part, signature and
--- place of the name's length. Assumes nothing.
+-- The five checks of a record, as `specs/Checks.antt` states them: each number is given exactly when its sentence holds, for a record
+-- of any fixed part, signature and place of the name's length. Assumes nothing.
 use mathlib.Core.Path.{_≡_, sym, subst}
-use mathlib.Core.Logic.{_↔_, _⊎_, inl, inr}
+use mathlib.Core.Logic.{_↔_, inl, inr}
 use mathlib.Core.List.{List}
 use Prim.Native.Nat.{ℕ, zero, suc, _+_, _≤_, _<_}
 use native.Mathlib.Decide.{decLe, ℕ-discrete}
@@ -9,24 +9,9 @@ use native.Mathlib.Omega.{arith}
 use lib.ListN.{length, drop}
 use borrow.Author.Tests.{lt-ltb, le-ltb, eq-eqb, ne-eqb}
 use Rattle.words.specs.Words.{word16}
-use Rattle.words.specs.Refusals.{SHORT, OUTSIDE, BAD-SIZE, BAD-SIGN, BAD-NAME}
+use Rattle.words.specs.Refusals.{BAD-SIZE, BAD-NAME}
 use Rattle.cell_key_node.specs.Records.{sizeOf, cellFault, faultAt}
-
--- ---- what the checks ask of a cell
-abbrev pub Room : List ℕ → ℕ → Type 0
-Room cell fixed = fixed ≤ length cell
-
-abbrev pub Sized : List ℕ → ℕ → Type 0
-Sized cell fixed = (fixed ≤ sizeOf cell) × (sizeOf cell ≤ length cell)
-
-abbrev pub Unsized : List ℕ → ℕ → Type 0
-Unsized cell fixed = (sizeOf cell < fixed) ⊎ (length cell < sizeOf cell)
-
-abbrev pub Signs : List ℕ → ℕ → Type 0
-Signs cell sign = word16 cell 4 ≡ sign
-
-abbrev pub Named : List ℕ → ℕ → ℕ → Type 0
-Named cell fixed nameAt = fixed + word16 cell nameAt ≤ sizeOf cell
+use Rattle.cell_key_node.specs.Checks.{Room, Sized, Unsized, Signs, Named, Exactly}
 
 module _ (cell : List ℕ) (fixed sign nameAt : ℕ) where
   -- what a number says of the cell, from 0 on: OUTSIDE is not said of a cell, nor any number above BAD NAME
@@ -77,10 +62,10 @@ module _ (cell : List ℕ) (fixed sign nameAt : ℕ) where
       go (yes r) (yes d) (yes e) (yes g) (yes m) = say 0 (r, (d, e), g, m)
 
 module _ (image : List ℕ) (position fixed sign nameAt : ℕ) where
-  abbrev pub cell : List ℕ
+  abbrev cell : List ℕ
   cell = drop position image
 
-  abbrev pub fault : ℕ
+  abbrev fault : ℕ
   fault = faultAt image position fixed sign nameAt
 
   -- what a number says of the record at the position
@@ -131,21 +116,7 @@ module _ (image : List ℕ) (position fixed sign nameAt : ℕ) where
   few (suc (suc (suc (suc (suc zero))))) h = omega arith
   few (suc (suc (suc (suc (suc (suc n)))))) h = absurd (h .1)
 
-  -- the same number by number, in the order of the checks; no other number is given
-  pub record Exactly : Type 0 where
-    pub outside : (fault ≡ OUTSIDE) ↔ (length image < position)
-    pub short : (fault ≡ SHORT) ↔ ((position ≤ length image) × (length cell < fixed))
-    pub bad-size : (fault ≡ BAD-SIZE) ↔ ((position ≤ length image) × (Room cell fixed × Unsized cell fixed))
-    pub bad-sign : (fault ≡ BAD-SIGN) ↔ ((position ≤ length image) × (Room cell fixed × Sized cell fixed × (Signs cell sign → ⊥)))
-    pub bad-name :
-        (fault ≡ BAD-NAME)
-        ↔ ((position ≤ length image) × (Room cell fixed × Sized cell fixed × Signs cell sign × (sizeOf cell < fixed + word16 cell nameAt)))
-    pub none :
-        (fault ≡ 0)
-        ↔ ((position ≤ length image) × (Room cell fixed × Sized cell fixed × Signs cell sign × Named cell fixed nameAt))
-    pub no-other : fault ≤ BAD-NAME
-
-  pub exactly : Exactly
+  pub exactly : Exactly image position fixed sign nameAt
   exactly =
       record {
         outside = exactly-when 2;

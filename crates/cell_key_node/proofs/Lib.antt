@@ -1,4 +1,5 @@
 pub mod Checks
+pub mod Records
 pub mod Places
 pub mod Fill
 pub mod ValueLists

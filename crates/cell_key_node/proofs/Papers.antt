@@ -1,15 +1,26 @@
 -- The promises fix the answers: two answers that say the same are the same. Assumes nothing.
-use mathlib.Core.Path.{_≡_, ap}
+use mathlib.Core.Path.{_≡_, refl, sym, ap}
+use Prim.Native.Nat.{ℕ}
+use native.Mathlib.Omega.{arith}
 use Rattle.words.proofs.Papers.{success-refused, refused-success, same-success, same-told, same-refusal}
+use Rattle.cell_key_node.specs.Records.{recordPaper}
 use Rattle.cell_key_node.specs.Key.{keyPaper}
-use Rattle.cell_key_node.specs.ValueList.{placePaper, toldOfList, valueListPaper}
+use Rattle.cell_key_node.specs.ValueList.{nowhere, at, placePaper, toldOfList, valueListPaper}
+use Rattle.cell_key_node.specs.declared.RecordAnswer.{RecordAnswer}
+use Rattle.cell_key_node.specs.declared.RecordAnswer.the-variants.{Whole, Refused as NoRecord}
 use Rattle.cell_key_node.specs.declared.KeyAnswer.{KeyAnswer}
 use Rattle.cell_key_node.specs.declared.KeyAnswer.the-variants.{Key, Refused as NoKey}
 use Rattle.cell_key_node.specs.declared.PlaceAnswer.{PlaceAnswer}
-use Rattle.cell_key_node.specs.declared.PlaceAnswer.the-variants.{Place, Refused as NoPlace}
+use Rattle.cell_key_node.specs.declared.PlaceAnswer.the-variants.{Nothing, Place, Refused as NoPlace}
 use Rattle.cell_key_node.specs.declared.ListRefusal.{ListRefusal}
 use Rattle.cell_key_node.specs.declared.ValueListAnswer.{ValueListAnswer}
 use Rattle.cell_key_node.specs.declared.ValueListAnswer.the-variants.{Listed, Refused as NoList}
+
+pub record-injective : (r t : RecordAnswer) → recordPaper r ≡ recordPaper t → r ≡ t
+record-injective Whole Whole e = refl
+record-injective Whole (NoRecord f) e = absurd (success-refused e)
+record-injective (NoRecord f) Whole e = absurd (refused-success e)
+record-injective (NoRecord f) (NoRecord g) e = ap NoRecord (same-refusal (same-told e))
 
 pub key-injective : (r t : KeyAnswer) → keyPaper r ≡ keyPaper t → r ≡ t
 key-injective (Key k) (Key l) e = ap Key (same-success e)
@@ -17,10 +28,21 @@ key-injective (Key k) (NoKey f) e = absurd (success-refused e)
 key-injective (NoKey f) (Key k) e = absurd (refused-success e)
 key-injective (NoKey f) (NoKey g) e = ap NoKey (same-refusal (same-told e))
 
+same-place : {p q : ℕ} → at p ≡ at q → p ≡ q
+same-place e = cc
+
+nowhere-at : {p : ℕ} → nowhere ≡ at p → ⊥
+nowhere-at e = let z : _≡_ {A = ℕ} 0 1 = cc in absurd (omega arith)
+
 pub place-injective : (r t : PlaceAnswer) → placePaper r ≡ placePaper t → r ≡ t
-place-injective (Place p) (Place q) e = ap Place (same-success e)
-place-injective (Place p) (NoPlace f) e = absurd (success-refused e)
-place-injective (NoPlace f) (Place p) e = absurd (refused-success e)
+place-injective Nothing Nothing e = refl
+place-injective Nothing (Place q) e = absurd (nowhere-at (same-success e))
+place-injective Nothing (NoPlace g) e = absurd (success-refused e)
+place-injective (Place p) Nothing e = absurd (nowhere-at (sym (same-success e)))
+place-injective (Place p) (Place q) e = ap Place (same-place (same-success e))
+place-injective (Place p) (NoPlace g) e = absurd (success-refused e)
+place-injective (NoPlace f) Nothing e = absurd (refused-success e)
+place-injective (NoPlace f) (Place q) e = absurd (refused-success e)
 place-injective (NoPlace f) (NoPlace g) e = ap NoPlace (same-refusal (same-told e))
 
 same-list-refusal : {f g : ListRefusal} → toldOfList f ≡ toldOfList g → f ≡ g

@@ -1,5 +1,6 @@
 -- Document 01, "Key and value records": the checks of both. A record is read from its cell, which is what of the image stands
 -- from the record's size word on.
+use Prim.{Unit, tt}
 use Prim.Native.Nat.{ℕ, _+_}
 use mathlib.Core.List.{List}
 use mathlib.Core.Bool.{cond, not}
@@ -8,6 +9,9 @@ use lib.Dec.{ltb, eqb}
 use lib.IntN.{natAbs}
 use Rattle.words.specs.Words.{word16, word32, signed}
 use Rattle.words.specs.Refusals.{SHORT, OUTSIDE, BAD-SIZE, BAD-SIGN, BAD-NAME}
+use Rattle.words.specs.Paper.{Paper, success, refused, told, checked}
+use Rattle.cell_key_node.specs.declared.RecordAnswer.{RecordAnswer}
+use Rattle.cell_key_node.specs.declared.RecordAnswer.the-variants.{Whole, Refused}
 
 -- "size 0 (signed)": its magnitude
 unfoldable pub sizeOf : List ℕ → ℕ
@@ -34,3 +38,12 @@ unfoldable pub faultAt : List ℕ → ℕ → ℕ → ℕ → ℕ → ℕ
 faultAt image position fixed sign nameAt =
     cond (ltb (length image) position) OUTSIDE
     (cellFault (drop position image) fixed sign nameAt)
+
+-- "A refusal returns its number, the position of the .. record at fault"; of a record that passes the checks nothing is told
+unfoldable pub recordAt : List ℕ → ℕ → ℕ → ℕ → ℕ → Paper (Unit {0})
+recordAt image position fixed sign nameAt = checked (faultAt image position fixed sign nameAt) position tt
+
+-- what the code's answer says
+abbrev pub recordPaper : RecordAnswer → Paper (Unit {0})
+recordPaper Whole = success tt
+recordPaper (Refused f) = refused (told f)

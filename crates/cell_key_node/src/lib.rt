@@ -5,9 +5,9 @@ ghost use Prim.Native.Nat.{_≤_};
 ghost use mathlib.Core.List.{_++_};
 ghost use lib.ListN.{length, drop};
 ghost use Rattle.words.specs.Parts.{Part};
-ghost use Rattle.cell_key_node.specs.Records.{sizeOf, cellFault, faultAt};
+ghost use Rattle.cell_key_node.specs.Records.{sizeOf, cellFault, faultAt, recordAt, recordPaper};
 ghost use Rattle.cell_key_node.specs.Key.{keyOf, keyAt, keyPaper, keyName, keyNameAt, keySlack, keySlackAt};
-ghost use Rattle.cell_key_node.specs.ValueList.{placeOf, placePaper, upTo, entryOf, Answered};
+ghost use Rattle.cell_key_node.specs.ValueList.{placeOf, placePaper, upTo, entryOf, ListAnswered};
 ghost use Rattle.sub_key_walk.specs.Answers.{Answered as Walked};
 use sub_key_walk::COUNT_LIMIT;
 use sub_key_walk::WalkAnswer;
@@ -45,14 +45,21 @@ pub struct KeyNode {
     pub class_name_size: u16,
 }
 
+// A record passes the checks, or is refused.
+pub enum RecordAnswer {
+    Whole,
+    Refused(Refusal),
+}
+
 // The record, or why there is none.
 pub enum KeyAnswer {
     Key(KeyNode),
     Refused(Refusal),
 }
 
-// The position of a value list, or why there is none.
+// Nothing for a count of 0, the position of a value list, or why there is none.
 pub enum PlaceAnswer {
+    Nothing,
     Place(usize),
     Refused(Refusal),
 }
@@ -106,13 +113,7 @@ fn cell_fault(cell: &[u8], fixed: usize, signature: u16, name_at: usize) -> u32
 
 // The first check that the record at a position fails, by the number of its refusal, or 0: of a record with so large a fixed
 // part, a signature, and the length of its name at a place of it.
-pub fn record_fault(
-    image: &[u8],
-    position: usize,
-    fixed: usize,
-    signature: u16,
-    name_at: usize,
-) -> u32
+fn record_fault(image: &[u8], position: usize, fixed: usize, signature: u16, name_at: usize) -> u32
     ensures { λ r. ⌜ r ≡ faultAt (now (image .entry)) position fixed signature «name_at» ⌝ }
 {
     if image.len() < position {
@@ -120,6 +121,27 @@ pub fn record_fault(
     }
     let cell = words::from(image, position);
     cell_fault(cell, fixed, signature, name_at)
+}
+
+// The checks of the record at a position, for records of both kinds: the first that fails refuses it, at its position.
+pub fn check_record(
+    image: &[u8],
+    position: usize,
+    fixed: usize,
+    signature: u16,
+    name_at: usize,
+) -> RecordAnswer
+    ensures { λ r. ⌜ recordPaper r ≡ recordAt (now (image .entry)) position fixed signature «name_at» ⌝ }
+{
+    let fault = record_fault(image, position, fixed, signature, name_at);
+    if fault == 0 {
+        RecordAnswer::Whole
+    } else {
+        RecordAnswer::Refused(Refusal {
+            number: fault,
+            position: position,
+        })
+    }
 }
 
 // The numbers of a key record's cell.
@@ -156,16 +178,13 @@ fn key_in(cell: &[u8]) -> KeyNode
 pub fn read_key_node(image: &[u8], position: usize) -> KeyAnswer
     ensures { λ r. ⌜ keyPaper r ≡ keyAt (now (image .entry)) position ⌝ }
 {
-    let fault = record_fault(image, position, FIXED, SIGNATURE, NAME_SIZE_AT);
-    if fault == 0 {
-        let cell = words::from(image, position);
-        let key = key_in(cell);
-        KeyAnswer::Key(key)
-    } else {
-        KeyAnswer::Refused(Refusal {
-            number: fault,
-            position: position,
-        })
+    match check_record(image, position, FIXED, SIGNATURE, NAME_SIZE_AT) {
+        RecordAnswer::Refused(refusal) => KeyAnswer::Refused(refusal),
+        RecordAnswer::Whole => {
+            let cell = words::from(image, position);
+            let key = key_in(cell);
+            KeyAnswer::Key(key)
+        }
     }
 }
 
@@ -173,13 +192,13 @@ pub fn read_key_node(image: &[u8], position: usize) -> KeyAnswer
 pub fn key_name(image: &[u8], position: usize) -> &[u8]
     ensures { λ r. ⌜ Part (image .entry) r (keyNameAt (now (image .entry)) position) (keyName (now (image .entry)) position) ⌝ }
 {
-    let fault = record_fault(image, position, FIXED, SIGNATURE, NAME_SIZE_AT);
-    if fault == 0 {
-        let cell = words::from(image, position);
-        let size = words::u16_at(cell, NAME_SIZE_AT) as usize;
-        words::part(cell, FIXED, size)
-    } else {
-        &image[0..0]
+    match check_record(image, position, FIXED, SIGNATURE, NAME_SIZE_AT) {
+        RecordAnswer::Refused(_) => &image[0..0],
+        RecordAnswer::Whole => {
+            let cell = words::from(image, position);
+            let size = words::u16_at(cell, NAME_SIZE_AT) as usize;
+            words::part(cell, FIXED, size)
+        }
     }
 }
 
@@ -187,23 +206,26 @@ pub fn key_name(image: &[u8], position: usize) -> &[u8]
 pub fn key_slack(image: &[u8], position: usize) -> &[u8]
     ensures { λ r. ⌜ Part (image .entry) r (keySlackAt (now (image .entry)) position) (keySlack (now (image .entry)) position) ⌝ }
 {
-    let fault = record_fault(image, position, FIXED, SIGNATURE, NAME_SIZE_AT);
-    if fault == 0 {
-        let cell = words::from(image, position);
-        let size = size_of(cell) as usize;
-        let whole = words::part(cell, 0, size);
-        let name = words::u16_at(cell, NAME_SIZE_AT) as usize;
-        let end = FIXED + name;
-        words::from(whole, end)
-    } else {
-        &image[0..0]
+    match check_record(image, position, FIXED, SIGNATURE, NAME_SIZE_AT) {
+        RecordAnswer::Refused(_) => &image[0..0],
+        RecordAnswer::Whole => {
+            let cell = words::from(image, position);
+            let size = size_of(cell) as usize;
+            let whole = words::part(cell, 0, size);
+            let name = words::u16_at(cell, NAME_SIZE_AT) as usize;
+            let end = FIXED + name;
+            words::from(whole, end)
+        }
     }
 }
 
-// Where the value list of a count above 0 stands, its size word and all its entries within the image.
+// Where the value list of a key record stands, its size word and all its entries within the image; a count of 0 has no list.
 pub fn value_list_place(image: &[u8], base: u32, count: u32, offset: i32) -> PlaceAnswer
     ensures { λ r. ⌜ placePaper r ≡ placeOf (now (image .entry)) base count offset ⌝ }
 {
+    if count == 0 {
+        return PlaceAnswer::Nothing;
+    }
     let relative = words::above_zero(offset) as usize;
     let place = relative + base as usize;
     if relative == 0 {
@@ -262,12 +284,10 @@ pub fn value_list(
     offset: i32,
     out: &mut [u32],
 ) -> ValueListAnswer
-    ensures { λ r. ⌜ Answered (now (image .entry)) base count offset (now (out .entry)) r (now (out .exit)) ⌝ }
+    ensures { λ r. ⌜ ListAnswered (now (image .entry)) base count offset (now (out .entry)) r (now (out .exit)) ⌝ }
 {
-    if count == 0 {
-        return ValueListAnswer::Listed(0);
-    }
     match value_list_place(image, base, count, offset) {
+        PlaceAnswer::Nothing => ValueListAnswer::Listed(0),
         PlaceAnswer::Refused(refusal) => ValueListAnswer::Refused(ListRefusal {
             number: refusal.number,
             position: refusal.position,
@@ -290,7 +310,7 @@ pub fn value_list(
 
 // The value list of a key record, from the record.
 pub fn value_list_of(image: &[u8], base: u32, key: KeyNode, out: &mut [u32]) -> ValueListAnswer
-    ensures { λ r. ⌜ Answered (now (image .entry)) base (key .«number_of_key_values») (key .«key_values_list_offset_relative») (now (out .entry)) r (now (out .exit)) ⌝ }
+    ensures { λ r. ⌜ ListAnswered (now (image .entry)) base (key .«number_of_key_values») (key .«key_values_list_offset_relative») (now (out .entry)) r (now (out .exit)) ⌝ }
 {
     let count = key.number_of_key_values;
     let offset = key.key_values_list_offset_relative;

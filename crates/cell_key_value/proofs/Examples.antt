@@ -6,9 +6,9 @@ use Prim.Native.Nat.{ℕ}
 use lib.IntN.{ℤ, pos}
 use Rattle.words.specs.Paper.{refused, by}
 use Rattle.words.specs.Refusals.{NO-LIST, OUTSIDE, NOT-FOUND}
-use Rattle.cell_key_node.specs.ValueList.{placeOf}
+use Rattle.cell_key_node.specs.ValueList.{placeOf, entriesOf}
 use Rattle.cell_key_value.specs.Text.{lowerOf, sameText, matchesOf}
-use Rattle.cell_key_value.specs.Lookup.{lookupOf}
+use Rattle.cell_key_value.specs.Lookup.{lookThrough, lookupOf}
 
 -- "Count 0 is NOT FOUND"; "the list's refusals without 9 come first", by the starred examples on value lists;
 -- "A stored name matches if both lengths are 0, or if flag 0001 is set and the bytes are equal after ASCII lower case only"
@@ -25,7 +25,7 @@ pub record Examples : Type 0 where
   pub flag-clear : matchesOf 2 (65 ∷ []) (65 ∷ []) ≡ false
 
 pub examples : Examples
-unfolding lookupOf placeOf matchesOf sameText lowerOf
+unfolding lookupOf lookThrough placeOf entriesOf matchesOf sameText lowerOf
 examples =
     record {
       no-values = λ image base offset name. refl;

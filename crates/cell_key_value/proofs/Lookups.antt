@@ -6,13 +6,14 @@ use Prim.Native.Nat.{ℕ, suc, _+_, _≤_, _<_}
 use native.Mathlib.Numerals.{add-one}
 use lib.ListN.{length, drop, drop-of-length-le}
 use lib.Seq.{drop-cons}
+use lib.IntN.{ℤ}
 use Rattle.words.specs.Paper.{Told, Paper, success, refused, by}
 use Rattle.words.specs.Refusals.{NOT-FOUND}
-use Rattle.cell_key_node.specs.ValueList.{upTo}
+use Rattle.cell_key_node.specs.ValueList.{nowhere, at, placeOf, upTo, entryOf, entriesOf}
 use Rattle.cell_key_node.proofs.Fill.{up-length, up-at}
 use Rattle.cell_key_value.specs.Value.{valueAt, valueName}
 use Rattle.cell_key_value.specs.Text.{matchesOf}
-use Rattle.cell_key_value.specs.Lookup.{decided, lookThrough}
+use Rattle.cell_key_value.specs.Lookup.{decided, lookThrough, lookupOf}
 use Rattle.cell_key_value.specs.declared.KeyValue.{KeyValue}
 use Rattle.cell_key_value.specs.declared.FoundValue.{FoundValue}
 
@@ -43,3 +44,17 @@ module _ (image : List ℕ) (base : ℕ) (name : List ℕ) (f : ℕ → ℕ) (n 
 
     pub no-match : (v : KeyValue) → valueAt image (w + base) ≡ success v → matchesOf (v .«flags_raw») (valueName image (w + base)) name ≡ false → from i ≡ from (i + 1)
     no-match v r m = here i h ∙ simp (← e, r, m, add-one)
+
+-- the lookup, where its list stands nowhere, stands at a place, is refused
+module _ (image : List ℕ) (base count : ℕ) (offset : ℤ) (name : List ℕ) where
+  pub sought-nowhere : placeOf image base count offset ≡ success nowhere → lookupOf image base count offset name ≡ refused (by NOT-FOUND 0)
+  unfolding lookupOf entriesOf lookThrough
+  sought-nowhere e = rw e
+
+  pub sought-at : (p : ℕ) → placeOf image base count offset ≡ success (at p) → lookupOf image base count offset name ≡ lookThrough image base name (upTo (entryOf (drop p image)) count)
+  unfolding lookupOf entriesOf
+  sought-at p e = rw e
+
+  pub sought-refused : (t : Told) → placeOf image base count offset ≡ refused t → lookupOf image base count offset name ≡ refused t
+  unfolding lookupOf
+  sought-refused t e = rw e

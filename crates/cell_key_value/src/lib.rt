@@ -2,11 +2,12 @@
 ghost use mathlib.Core.Path.{_≡_};
 ghost use Rattle.words.specs.Parts.{Part};
 ghost use Rattle.cell_key_node.specs.ValueList.{upTo, entryOf};
-ghost use Rattle.cell_key_value.specs.Value.{valueFault, valueOf, valueAt, valuePaper, valueName, valueNameAt};
+ghost use Rattle.cell_key_value.specs.Value.{valueOf, valueAt, valuePaper, valueName, valueNameAt};
 ghost use Rattle.cell_key_value.specs.Text.{lowerOf, sameText, matchesOf};
 ghost use Rattle.cell_key_value.specs.Lookup.{refusalOf, lookThrough, lookupOf, lookupPaper};
 use cell_key_node::KeyNode;
 use cell_key_node::PlaceAnswer;
+use cell_key_node::RecordAnswer;
 use words::Refusal;
 
 // The fixed part of a value record, its signature "vk", and the place of its name's length.
@@ -45,13 +46,6 @@ pub enum LookupAnswer {
     Refused(Refusal),
 }
 
-// The first check that the value record at a position fails, by the number of its refusal, or 0.
-fn value_fault(image: &[u8], position: usize) -> u32
-    ensures { λ r. ⌜ r ≡ valueFault (now (image .entry)) position ⌝ }
-{
-    cell_key_node::record_fault(image, position, FIXED, SIGNATURE, NAME_SIZE_AT)
-}
-
 // The numbers of a value record's cell.
 fn value_in(cell: &[u8]) -> KeyValue
     ensures { λ r. ⌜ r ≡ valueOf (now (cell .entry)) ⌝ }
@@ -72,16 +66,13 @@ fn value_in(cell: &[u8]) -> KeyValue
 pub fn read_key_value(image: &[u8], position: usize) -> ValueAnswer
     ensures { λ r. ⌜ valuePaper r ≡ valueAt (now (image .entry)) position ⌝ }
 {
-    let fault = value_fault(image, position);
-    if fault == 0 {
-        let cell = words::from(image, position);
-        let value = value_in(cell);
-        ValueAnswer::Value(value)
-    } else {
-        ValueAnswer::Refused(Refusal {
-            number: fault,
-            position: position,
-        })
+    match cell_key_node::check_record(image, position, FIXED, SIGNATURE, NAME_SIZE_AT) {
+        RecordAnswer::Refused(refusal) => ValueAnswer::Refused(refusal),
+        RecordAnswer::Whole => {
+            let cell = words::from(image, position);
+            let value = value_in(cell);
+            ValueAnswer::Value(value)
+        }
     }
 }
 
@@ -89,13 +80,13 @@ pub fn read_key_value(image: &[u8], position: usize) -> ValueAnswer
 pub fn value_name(image: &[u8], position: usize) -> &[u8]
     ensures { λ r. ⌜ Part (image .entry) r (valueNameAt (now (image .entry)) position) (valueName (now (image .entry)) position) ⌝ }
 {
-    let fault = value_fault(image, position);
-    if fault == 0 {
-        let cell = words::from(image, position);
-        let size = words::u16_at(cell, NAME_SIZE_AT) as usize;
-        words::part(cell, FIXED, size)
-    } else {
-        &image[0..0]
+    match cell_key_node::check_record(image, position, FIXED, SIGNATURE, NAME_SIZE_AT) {
+        RecordAnswer::Refused(_) => &image[0..0],
+        RecordAnswer::Whole => {
+            let cell = words::from(image, position);
+            let size = words::u16_at(cell, NAME_SIZE_AT) as usize;
+            words::part(cell, FIXED, size)
+        }
     }
 }
 
@@ -166,7 +157,8 @@ fn find_in(image: &[u8], list: &[u8], base: u32, count: u32, name: &[u8]) -> Loo
     let mut i: u32 = 0;
     while i < count {
         let entry = words::u32_at(list, 4 + 4 * (i as usize));
-        let position = entry as usize + base as usize;
+        let relative = entry as usize;
+        let position = relative + base as usize;
         let answer = read_key_value(image, position);
         let ValueAnswer::Value(value) = answer else {
             let refusal = refusal_of(answer);
@@ -191,13 +183,11 @@ fn find_in(image: &[u8], list: &[u8], base: u32, count: u32, name: &[u8]) -> Loo
 pub fn find_value(image: &[u8], base: u32, count: u32, offset: i32, name: &[u8]) -> LookupAnswer
     ensures { λ r. ⌜ lookupPaper r ≡ lookupOf (now (image .entry)) base count offset (now (name .entry)) ⌝ }
 {
-    if count == 0 {
-        return LookupAnswer::Refused(Refusal {
+    match cell_key_node::value_list_place(image, base, count, offset) {
+        PlaceAnswer::Nothing => LookupAnswer::Refused(Refusal {
             number: words::NOT_FOUND,
             position: 0,
-        });
-    }
-    match cell_key_node::value_list_place(image, base, count, offset) {
+        }),
         PlaceAnswer::Place(place) => {
             let list = words::from(image, place);
             find_in(image, list, base, count, name)

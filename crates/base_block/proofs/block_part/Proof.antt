@@ -10,15 +10,12 @@ use Rattle.base_block.proofs.block_part.Lts as lts
 use Rattle.base_block.proofs.fault.Reads as fault-reads
 use Rattle.words.proofs.part.Reads as part-reads
 
--- src/lib.rt:174:9
 fault-requires : tie.Need-fault-requires
 fault-requires c κs = search needs
 
--- src/lib.rt:176:9
 part-requires : tie.Need-part-requires
 part-requires c κs = search needs
 
--- src/lib.rt:178:9
 sub-result : tie.Need-sub-result
 sub-result c = search needs
 
@@ -28,7 +25,6 @@ part-result-start c = search needs
 part-result-end : tie.Need-part-result-end
 part-result-end c = search needs
 
--- src/lib.rt:171:1
 returns : tie.Need-returns
 unfolding partOf partAt
 returns c =
@@ -36,7 +32,6 @@ returns c =
     let f = sym (c .before .before .fault .ensures) ∙ c .before .if1 .taken in
     handed-part f (retold (in-block (a .image .now) (a .at) f (c .before .before .before .before .pre)) refl (c .part .ensures))
 
--- src/lib.rt:171:1
 returns-2 : tie.Need-returns-2
 unfolding partOf partAt
 returns-2 c = handed-none _ _ _ (λ e. c .before .if1 .left (c .before .before .fault .ensures ∙ e)) (record { bytes = refl; place = refl })

@@ -10,20 +10,16 @@ use Rattle.base_block.proofs.calculate_checksum.Lts as lts
 use Rattle.base_block.proofs.mend.Reads as mend-reads
 use Rattle.base_block.proofs.xor_words.Reads as xor-words-reads
 
--- src/lib.rt:41:9
 returns : tie.Need-returns
 unfolding checksumOf
 returns c = simp (lt-ltb _ _ (c .if1 .taken))
 
--- src/lib.rt:46:24
 xor-words-requires : tie.Need-xor-words-requires
 xor-words-requires c κs = search needs
 
--- src/lib.rt:46:19
 mend-requires : tie.Need-mend-requires
 mend-requires c κs = search needs
 
--- src/lib.rt:37:1
 returns-2 : tie.Need-returns-2
 unfolding checksumOf sumOf
 returns-2 c = simp (le-ltb _ _ (c .before .before .if1 .left)) (ap success (c .mend .ensures ∙ ap mended (c .before .xor-words .ensures)))

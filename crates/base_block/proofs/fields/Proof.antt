@@ -1,7 +1,7 @@
 use mathlib.Core.Path.{ap, _∙_}
 use Rattle.words.proofs.Signed.{held}
 use Rattle.base_block.specs.Checksum.{mended, sumOf}
-use Rattle.base_block.specs.Block.{typeOf, formatOf, fieldsOf}
+use Rattle.base_block.specs.Block.{typeOf, formatOf, firstOf, extensionOf, fieldsOf}
 use borrow.Author.Needs.{needs}
 use Rattle.base_block.proofs.fields.Statement.{statement}
 use Rattle.base_block.proofs.fields.Tie as tie
@@ -15,89 +15,68 @@ use Rattle.words.proofs.i32_at.Reads as i32-at-reads
 use Rattle.words.proofs.u32_at.Reads as u32-at-reads
 use Rattle.words.proofs.u64_at.Reads as u64-at-reads
 
--- src/lib.rt:112:9
 u32-at-requires : tie.Need-u32-at-requires
 u32-at-requires c κs = search needs
 
--- src/lib.rt:113:9
 file-type-requires : tie.Need-file-type-requires
 file-type-requires c κs = search needs
 
--- src/lib.rt:114:9
 u32-at-requires-2 : tie.Need-u32-at-requires-2
 u32-at-requires-2 c κs = search needs
 
--- src/lib.rt:115:9
 file-format-requires : tie.Need-file-format-requires
 file-format-requires c κs = search needs
 
--- src/lib.rt:116:34
 xor-words-requires : tie.Need-xor-words-requires
 xor-words-requires c κs = search needs
 
--- src/lib.rt:116:9
 mend-requires : tie.Need-mend-requires
 mend-requires c κs = search needs
 
--- src/lib.rt:118:34
 u32-at-requires-3 : tie.Need-u32-at-requires-3
 u32-at-requires-3 c κs = search needs
 
--- src/lib.rt:119:36
 u32-at-requires-4 : tie.Need-u32-at-requires-4
 u32-at-requires-4 c κs = search needs
 
--- src/lib.rt:120:33
 u64-at-requires : tie.Need-u64-at-requires
 u64-at-requires c κs = search needs
 
--- src/lib.rt:121:24
 u32-at-requires-5 : tie.Need-u32-at-requires-5
 u32-at-requires-5 c κs = search needs
 
--- src/lib.rt:122:24
 u32-at-requires-6 : tie.Need-u32-at-requires-6
 u32-at-requires-6 c κs = search needs
 
--- src/lib.rt:127:27
 i32-at-requires : tie.Need-i32-at-requires
 i32-at-requires c κs = search needs
 
--- src/lib.rt:128:30
 u32-at-requires-7 : tie.Need-u32-at-requires-7
 u32-at-requires-7 c κs = search needs
 
--- src/lib.rt:129:28
 u32-at-requires-8 : tie.Need-u32-at-requires-8
 u32-at-requires-8 c κs = search needs
 
--- src/lib.rt:130:19
 u32-at-requires-9 : tie.Need-u32-at-requires-9
 u32-at-requires-9 c κs = search needs
 
--- src/lib.rt:132:16
 u32-at-requires-10 : tie.Need-u32-at-requires-10
 u32-at-requires-10 c κs = search needs
 
--- src/lib.rt:133:20
 u32-at-requires-11 : tie.Need-u32-at-requires-11
 u32-at-requires-11 c κs = search needs
 
--- src/lib.rt:134:32
 u64-at-requires-2 : tie.Need-u64-at-requires-2
 u64-at-requires-2 c κs = search needs
 
--- src/lib.rt:135:20
 u32-at-requires-12 : tie.Need-u32-at-requires-12
 u32-at-requires-12 c κs = search needs
 
--- src/lib.rt:136:23
 u32-at-requires-13 : tie.Need-u32-at-requires-13
 u32-at-requires-13 c κs = search needs
 
--- src/lib.rt:109:1
 returns : tie.Need-returns
-unfolding fieldsOf sumOf
+unfolding fieldsOf firstOf extensionOf sumOf
 returns c =
     let c1 = c .before in
     let c2 = c1 .before in

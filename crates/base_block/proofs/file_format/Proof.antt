@@ -5,12 +5,10 @@ use Rattle.base_block.proofs.file_format.Tie as tie
 use Rattle.base_block.proofs.file_format.Reads as reads
 use Rattle.base_block.proofs.file_format.Lts as lts
 
--- src/lib.rt:100:1
 returns : tie.Need-returns
 unfolding formatOf
 returns c = simp (c .match .keys1)
 
--- src/lib.rt:100:1
 returns-2 : tie.Need-returns-2
 unfolding formatOf
 returns-2 c = simp (ne-eqb _ _ (c .match .rest .1))

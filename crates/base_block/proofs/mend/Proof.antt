@@ -5,17 +5,14 @@ use Rattle.base_block.proofs.mend.Tie as tie
 use Rattle.base_block.proofs.mend.Reads as reads
 use Rattle.base_block.proofs.mend.Lts as lts
 
--- src/lib.rt:26:1
 returns : tie.Need-returns
 unfolding mended
 returns c = simp (c .match .keys1)
 
--- src/lib.rt:26:1
 returns-2 : tie.Need-returns-2
 unfolding mended
 returns-2 c = simp (c .match .keys2)
 
--- src/lib.rt:26:1
 returns-3 : tie.Need-returns-3
 unfolding mended
 returns-3 c = simp (ne-eqb _ _ (c .match .rest .1), ne-eqb _ _ (c .match .rest .0 .1))

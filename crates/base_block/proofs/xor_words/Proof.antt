@@ -8,7 +8,7 @@ use Rattle.base_block.proofs.xor_words.Statement.{statement}
 use Rattle.base_block.proofs.xor_words.Tie as tie
 use Rattle.base_block.proofs.xor_words.Reads as reads
 use Rattle.base_block.proofs.xor_words.Lts as lts
-use Rattle.words.proofs.u32_at.Reads as u32-at-reads
+use Rattle.words.proofs.join4.Reads as join4-reads
 
 abbrev Inv-loop : tie.InvT-loop
 Inv-loop s x₀ i₀ x i = (i ≤ 127) × (x ≡ xorOf s i)
@@ -16,32 +16,57 @@ Inv-loop s x₀ i₀ x i = (i ≤ 127) × (x ≡ xorOf s i)
 abbrev μ-loop : tie.MeasureT-loop
 μ-loop s x₀ i₀ x i = 127 - i
 
--- src/lib.rt:19:5
 loop-holds : tie.Need-loop-holds Inv-loop μ-loop
 unfolding xorOf
 loop-holds c = search needs
 
--- src/lib.rt:20:34
-mul-u32-at : tie.Need-mul-u32-at Inv-loop μ-loop
-mul-u32-at c = search needs
+mul-join4 : tie.Need-mul-join4 Inv-loop μ-loop
+mul-join4 c = search needs
 
--- src/lib.rt:20:17
-u32-at-requires : tie.Need-u32-at-requires Inv-loop μ-loop
-u32-at-requires c κs = search needs
+shared-slice-read-join4 : tie.Need-shared-slice-read-join4 Inv-loop μ-loop
+shared-slice-read-join4 c = search needs
 
--- src/lib.rt:21:9
+mul-join4-2 : tie.Need-mul-join4-2 Inv-loop μ-loop
+mul-join4-2 c = search needs
+
+add-join4 : tie.Need-add-join4 Inv-loop μ-loop
+add-join4 c = search needs
+
+shared-slice-read-join4-2 : tie.Need-shared-slice-read-join4-2 Inv-loop μ-loop
+shared-slice-read-join4-2 c = search needs
+
+mul-join4-3 : tie.Need-mul-join4-3 Inv-loop μ-loop
+mul-join4-3 c = search needs
+
+add-join4-2 : tie.Need-add-join4-2 Inv-loop μ-loop
+add-join4-2 c = search needs
+
+shared-slice-read-join4-3 : tie.Need-shared-slice-read-join4-3 Inv-loop μ-loop
+shared-slice-read-join4-3 c = search needs
+
+mul-join4-4 : tie.Need-mul-join4-4 Inv-loop μ-loop
+mul-join4-4 c = search needs
+
+add-join4-3 : tie.Need-add-join4-3 Inv-loop μ-loop
+add-join4-3 c = search needs
+
+shared-slice-read-join4-4 : tie.Need-shared-slice-read-join4-4 Inv-loop μ-loop
+shared-slice-read-join4-4 c = search needs
+
+join4-requires : tie.Need-join4-requires Inv-loop μ-loop
+join4-requires c κs = search needs
+
 add-i : tie.Need-add-i Inv-loop μ-loop
 add-i c = search needs
 
--- src/lib.rt:19:5
 loop-less : tie.Need-loop-less Inv-loop μ-loop
 loop-less c = search needs
 
--- src/lib.rt:19:5
 loop-again : tie.Need-loop-again Inv-loop μ-loop
-loop-again c = (search needs, cc (xor-more (c .before .before .before .before .args .s .now) (c .before .before .loop .i)))
+loop-again c =
+    let l = c .before .before .before .before .before .before .loop in
+    (search needs, rw (l .inv .1) (xor-more (c .before .before .before .before .before .before .before .before .args .s .now) (l .i) (c .join4 .result) (c .join4 .ensures)))
 
--- src/lib.rt:14:1
 returns : tie.Need-returns Inv-loop μ-loop
 returns c = let e : c .before .loop .i ≡ 127 = omega arith in cc
 
@@ -52,8 +77,18 @@ xor-words-spec =
     Inv-loop
     μ-loop
     loop-holds
-    mul-u32-at
-    u32-at-requires
+    mul-join4
+    shared-slice-read-join4
+    mul-join4-2
+    add-join4
+    shared-slice-read-join4-2
+    mul-join4-3
+    add-join4-2
+    shared-slice-read-join4-3
+    mul-join4-4
+    add-join4-3
+    shared-slice-read-join4-4
+    join4-requires
     add-i
     loop-less
     loop-again

@@ -1,19 +1,35 @@
-use mathlib.Core.Path.{refl, sym, _∙_}
+use mathlib.Core.Path.{refl}
 use Rattle.words.proofs.Parts.{handed-part, handed-none}
 use Rattle.cell_key_node.specs.Key.{keyName, keyNameAt, keyFault}
+use Rattle.cell_key_node.proofs.Records.{passed, failed}
 use Rattle.cell_key_node.proofs.Places.{name-placed}
 use borrow.Author.Needs.{needs}
 use Rattle.cell_key_node.proofs.key_name.Statement.{statement}
 use Rattle.cell_key_node.proofs.key_name.Tie as tie
 use Rattle.cell_key_node.proofs.key_name.Reads as reads
 use Rattle.cell_key_node.proofs.key_name.Lts as lts
-use Rattle.cell_key_node.proofs.record_fault.Reads as record-fault-reads
+use Rattle.cell_key_node.proofs.check_record.Reads as check-record-reads
 use Rattle.words.proofs.from.Reads as from-reads
 use Rattle.words.proofs.part.Reads as part-reads
 use Rattle.words.proofs.u16_at.Reads as u16-at-reads
 
-record-fault-requires : tie.Need-record-fault-requires
-record-fault-requires c κs = search needs
+check-record-requires : tie.Need-check-record-requires
+check-record-requires c κs = search needs
+
+enum-told : tie.Need-enum-told
+enum-told c = search needs
+
+sub-result : tie.Need-sub-result
+sub-result c = search needs
+
+part-result-start : tie.Need-part-result-start
+part-result-start c = search needs
+
+part-result-end : tie.Need-part-result-end
+part-result-end c = search needs
+
+enum-told-2 : tie.Need-enum-told-2
+enum-told-2 c = search needs
 
 from-requires : tie.Need-from-requires
 from-requires c κs = search needs
@@ -27,37 +43,32 @@ cast-size c = search needs
 part-requires : tie.Need-part-requires
 part-requires c κs = search needs
 
-sub-result : tie.Need-sub-result
-sub-result c = search needs
-
-part-result-start : tie.Need-part-result-start
-part-result-start c = search needs
-
-part-result-end : tie.Need-part-result-end
-part-result-end c = search needs
-
 returns : tie.Need-returns
 unfolding keyName keyNameAt keyFault
 returns c =
-    let f = sym (c .before .before .before .before .record-fault .ensures) ∙ c .before .before .before .if1 .taken in
-    let a = c .before .before .before .before .before .before .args in
-    handed-part f (name-placed (a .position) 80 0x6B6E 76 (c .before .before .from .ensures) f (c .before .u16-at .ensures) (c .part .ensures))
+    let a = c .before .before .before .before .before .args in
+    handed-none _ _ _ (failed (a .image .now) (a .position) 80 0x6B6E 76 (c .before .before .before .check-record .ensures) (c .before .enum-told .given .1)) (record { bytes = refl; place = refl })
 
 returns-2 : tie.Need-returns-2
 unfolding keyName keyNameAt keyFault
-returns-2 c = handed-none _ _ _ (λ e. c .before .if1 .left (c .before .before .record-fault .ensures ∙ e)) (record { bytes = refl; place = refl })
+returns-2 c =
+    let a = c .before .before .before .before .before .before .before .args in
+    let f = passed (a .image .now) (a .position) 80 0x6B6E 76 (c .before .before .before .before .before .check-record .ensures) (c .before .before .before .enum-told2 .given .1) in
+    handed-part f (name-placed (a .position) 80 0x6B6E 76 (c .before .before .from .ensures) f (c .before .u16-at .ensures) (c .part .ensures))
 
 pub key-name-spec : {M : Type 1} → statement M
 key-name-spec =
     tie.close
     (tie.spec
-    record-fault-requires
+    check-record-requires
+    enum-told
+    sub-result
+    part-result-start
+    part-result-end
+    enum-told-2
     from-requires
     u16-at-requires
     cast-size
     part-requires
-    sub-result
-    part-result-start
-    part-result-end
     returns
     returns-2)

@@ -39,8 +39,8 @@ add-u32-at c = search needs
 u32-at-requires : tie.Need-u32-at-requires Inv-loop μ-loop
 u32-at-requires c κs = search needs
 
-cast-position : tie.Need-cast-position Inv-loop μ-loop
-cast-position c = search needs
+cast-relative : tie.Need-cast-relative Inv-loop μ-loop
+cast-relative c = search needs
 
 add-position : tie.Need-add-position Inv-loop μ-loop
 add-position c = search needs
@@ -117,7 +117,7 @@ find-in-spec =
     mul-u32-at
     add-u32-at
     u32-at-requires
-    cast-position
+    cast-relative
     add-position
     read-key-value-requires
     enum-known-answer

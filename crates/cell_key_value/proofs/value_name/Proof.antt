@@ -1,5 +1,6 @@
-use mathlib.Core.Path.{refl, sym, _∙_}
+use mathlib.Core.Path.{refl}
 use Rattle.words.proofs.Parts.{handed-part, handed-none}
+use Rattle.cell_key_node.proofs.Records.{passed, failed}
 use Rattle.cell_key_node.proofs.Places.{name-placed}
 use Rattle.cell_key_value.specs.Value.{valueName, valueNameAt, valueFault}
 use borrow.Author.Needs.{needs}
@@ -7,13 +8,28 @@ use Rattle.cell_key_value.proofs.value_name.Statement.{statement}
 use Rattle.cell_key_value.proofs.value_name.Tie as tie
 use Rattle.cell_key_value.proofs.value_name.Reads as reads
 use Rattle.cell_key_value.proofs.value_name.Lts as lts
-use Rattle.cell_key_value.proofs.value_fault.Reads as value-fault-reads
+use Rattle.cell_key_node.proofs.check_record.Reads as check-record-reads
 use Rattle.words.proofs.from.Reads as from-reads
 use Rattle.words.proofs.part.Reads as part-reads
 use Rattle.words.proofs.u16_at.Reads as u16-at-reads
 
-value-fault-requires : tie.Need-value-fault-requires
-value-fault-requires c κs = search needs
+check-record-requires : tie.Need-check-record-requires
+check-record-requires c κs = search needs
+
+enum-told : tie.Need-enum-told
+enum-told c = search needs
+
+sub-result : tie.Need-sub-result
+sub-result c = search needs
+
+part-result-start : tie.Need-part-result-start
+part-result-start c = search needs
+
+part-result-end : tie.Need-part-result-end
+part-result-end c = search needs
+
+enum-told-2 : tie.Need-enum-told-2
+enum-told-2 c = search needs
 
 from-requires : tie.Need-from-requires
 from-requires c κs = search needs
@@ -27,37 +43,32 @@ cast-size c = search needs
 part-requires : tie.Need-part-requires
 part-requires c κs = search needs
 
-sub-result : tie.Need-sub-result
-sub-result c = search needs
-
-part-result-start : tie.Need-part-result-start
-part-result-start c = search needs
-
-part-result-end : tie.Need-part-result-end
-part-result-end c = search needs
-
 returns : tie.Need-returns
 unfolding valueName valueNameAt valueFault
 returns c =
-    let f = sym (c .before .before .before .before .value-fault .ensures) ∙ c .before .before .before .if1 .taken in
-    let a = c .before .before .before .before .before .before .args in
-    handed-part f (name-placed (a .position) 24 0x6B76 6 (c .before .before .from .ensures) f (c .before .u16-at .ensures) (c .part .ensures))
+    let a = c .before .before .before .before .before .args in
+    handed-none _ _ _ (failed (a .image .now) (a .position) 24 0x6B76 6 (c .before .before .before .check-record .ensures) (c .before .enum-told .given .1)) (record { bytes = refl; place = refl })
 
 returns-2 : tie.Need-returns-2
 unfolding valueName valueNameAt valueFault
-returns-2 c = handed-none _ _ _ (λ e. c .before .if1 .left (c .before .before .value-fault .ensures ∙ e)) (record { bytes = refl; place = refl })
+returns-2 c =
+    let a = c .before .before .before .before .before .before .before .args in
+    let f = passed (a .image .now) (a .position) 24 0x6B76 6 (c .before .before .before .before .before .check-record .ensures) (c .before .before .before .enum-told2 .given .1) in
+    handed-part f (name-placed (a .position) 24 0x6B76 6 (c .before .before .from .ensures) f (c .before .u16-at .ensures) (c .part .ensures))
 
 pub value-name-spec : {M : Type 1} → statement M
 value-name-spec =
     tie.close
     (tie.spec
-    value-fault-requires
+    check-record-requires
+    enum-told
+    sub-result
+    part-result-start
+    part-result-end
+    enum-told-2
     from-requires
     u16-at-requires
     cast-size
     part-requires
-    sub-result
-    part-result-start
-    part-result-end
     returns
     returns-2)

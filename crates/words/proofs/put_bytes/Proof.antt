@@ -5,9 +5,6 @@ use Prim.Native.Nat.{_-_}
 use Rattle.words.proofs.Writing.{Putting, putting-start, putting-step, putting-done, put-nothing}
 use Rattle.words.proofs.put_bytes.Statement.{statement}
 use Rattle.words.proofs.put_bytes.Tie as tie
-use Rattle.words.proofs.put_bytes.Reads as reads
-use Rattle.words.proofs.put_bytes.Lts as lts
-use Rattle.words.proofs.has_room.Reads as has-room-reads
 
 abbrev Inv-loop : tie.InvT-loop
 Inv-loop out₀ at n x room rest₀ i₀ out rest i = Putting out₀ at n x out rest i
@@ -15,47 +12,36 @@ Inv-loop out₀ at n x room rest₀ i₀ out rest i = Putting out₀ at n x out 
 abbrev μ-loop : tie.MeasureT-loop
 μ-loop out₀ at n x room rest₀ i₀ out rest i = n - i
 
--- src/lib.rt:225:9
 has-room-requires : tie.Need-has-room-requires Inv-loop μ-loop
 has-room-requires c κs = search needs
 
--- src/lib.rt:226:9
 returns : tie.Need-returns Inv-loop μ-loop
 returns c = let a = c .before .before .before .args in put-nothing (a .out .now) (a .at) (a .n) (a .x) (sym (c .before .has-room .ensures) ∙ not-true _ (c .if1 .taken))
 
--- src/lib.rt:230:5
 loop-holds : tie.Need-loop-holds Inv-loop μ-loop
 loop-holds c = let a = c .before .before .before .args in putting-start (a .out .now) (a .at) (a .n) (a .x) (sym (c .before .has-room .ensures) ∙ not-false _ (c .if1 .left))
 
--- src/lib.rt:231:19
 cast-low : tie.Need-cast-low Inv-loop μ-loop
 cast-low c = search needs
 
--- src/lib.rt:232:13
 add-out : tie.Need-add-out Inv-loop μ-loop
 add-out c = search needs
 
--- src/lib.rt:232:9
 slice-write-out : tie.Need-slice-write-out Inv-loop μ-loop
 slice-write-out c = search needs
 
--- src/lib.rt:234:13
 add-i : tie.Need-add-i Inv-loop μ-loop
 add-i c = search needs
 
--- src/lib.rt:230:5
 loop-less : tie.Need-loop-less Inv-loop μ-loop
 loop-less c = search needs
 
--- src/lib.rt:230:5
 loop-again : tie.Need-loop-again Inv-loop μ-loop
 loop-again c = let a = c .before .before .before .before .before .args in putting-step (a .out .now) (a .at) (a .n) (a .x) _ _ _ (c .loop-test .taken) (c .before .loop .inv)
 
--- src/lib.rt:221:1
 same-length : tie.Need-same-length Inv-loop μ-loop
 same-length c = search needs
 
--- src/lib.rt:221:1
 returns-2 : tie.Need-returns-2 Inv-loop μ-loop
 returns-2 c = let a = c .before .before .before .before .before .args in putting-done (a .out .now) (a .at) (a .n) (a .x) _ _ _ (c .loop-test .left) (c .before .loop .inv)
 

@@ -11,7 +11,7 @@ use native.Mathlib.Omega.{arith}
 use lib.Arith.{digits-div, digits-mod, mod-mul}
 use lib.Dec.{leb}
 use lib.ListN.{length, take, drop, set, length-take, length-set, List·getD-append}
-use lib.Seq.{sets, sets-eq, length-sets, drop-cons, take-at, drop-at, getD-append-add, getD-take, getD-drop}
+use lib.Seq.{sets, sets-eq, length-sets, drop-cons, take-at, drop-at, take-append-seam, drop-append-add, getD-append-add, getD-take, getD-drop}
 use borrow.Author.Tests.{le-leb, lt-leb, leb-true, leb-false}
 use Rattle.words.specs.Words.{byteAt, little}
 use Rattle.words.specs.Writing.{bytesOf, withBytes, PutAt}
@@ -79,7 +79,22 @@ unfolding little
 little-same zero s t a b h = refl
 little-same (suc n) s t a b h = rw (little-same n s t a b (λ i k. h i (omega arith)), h n (omega arith))
 
+-- read again where they stand in a row
+pub row-read : (xs ys : List ℕ) (n x : ℕ) → little n (xs ++ (bytesOf n x ++ ys)) (length xs) ≡ x % 256 ^ n
+row-read xs ys n x =
+    little-same n (xs ++ (bytesOf n x ++ ys)) (bytesOf n x) (length xs) 0
+    (λ i k. getD-append-add xs (bytesOf n x ++ ys) i 0 ∙ List·getD-append (bytesOf n x) ys 0 i (omega (arith, bytes-length n x))
+    ∙ ap (byteAt (bytesOf n x)) (sym (zero-add i)))
+    ∙ bytes-read n x
+
+pub row-back : (xs ys : List ℕ) (n x : ℕ) → x < 256 ^ n → little n (xs ++ (bytesOf n x ++ ys)) (length xs) ≡ x
+row-back xs ys n x h = row-read xs ys n x ∙ mod-eq-of-lt h
+
 -- ---- a row with other bytes from a place on
+
+-- behind a row that is written already: it grows by the bytes
+pub with-next : (xs rest bytes : List ℕ) → withBytes (xs ++ rest) (length xs) bytes ≡ xs ++ (bytes ++ drop (length bytes) rest)
+with-next xs rest bytes = rw (take-append-seam, drop-append-add)
 
 module _ (old : List ℕ) (at : ℕ) (bytes : List ℕ) (h : at + length bytes ≤ length old) where
   head-length : length (take at old) ≡ at
@@ -140,6 +155,12 @@ module _ {n x at : ℕ} {old : List ℕ} {r : Bool} {new : List ℕ} (p : PutAt 
 
   fit : r ≡ true → at + length (bytesOf n x) ≤ length old
   fit e = omega (arith, put-room e, bytes-length n x)
+
+  -- behind a row that is written already: it grows by the number's bytes
+  pub put-next : (xs rest : List ℕ) → old ≡ xs ++ rest → at ≡ length xs → r ≡ true → new ≡ xs ++ (bytesOf n x ++ drop n rest)
+  put-next xs rest o a e =
+      put-written e ∙ (λ i. withBytes (o i) (a i) (bytesOf n x)) ∙ with-next xs rest (bytesOf n x)
+      ∙ ap (λ (k : ℕ). xs ++ (bytesOf n x ++ drop k rest)) (bytes-length n x)
 
   -- as stores one after another
   pub put-sets : r ≡ true → new ≡ sets old at (bytesOf n x)

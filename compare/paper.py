@@ -308,9 +308,37 @@ def name_hash(flags, name):
     return h
 
 
+# ---- a cell at a position: document 02, order 1, "cell by cell in reading order: 2, 8 (size word .. not there, or a cell past the
+# image) .. 17 BAD DATA for a cell too small"
+
+def cell_at(image, position, least):
+    # 2: "a position is greater than the image length"
+    if position > len(image):
+        raise Refused(OUTSIDE, position)
+    left = len(image) - position
+    # 8: "size word .. not there"
+    if left < 4:
+        raise Refused(CUT_SHORT, position)
+    # 8: "or a cell past the image"
+    word = signed(image, position)
+    if abs(word) > left:
+        raise Refused(CUT_SHORT, position)
+    # "a cell too small": that is for the reader to refuse. "A negative size means allocated, a positive one free; both read."
+    return ["small" if abs(word) < least else "held", abs(word), int(word < 0)]
+
+
+# ---- a number into a lent buffer: "All numbers are little-endian."; where it does not fit, nothing changes
+
+def put(out, at, width, number):
+    if at + width > len(out):
+        return False
+    out[at:at + width] = (number % 256 ** width).to_bytes(width, "little")
+    return True
+
+
 # ---- the stream and the lines (compare/README.md)
 
-IMAGE_MOST, NAME_MOST, ROOM_MOST = 524_288, 65_536, 262_144
+IMAGE_MOST, NAME_MOST, ROOM_MOST, BYTES_MOST = 524_288, 65_536, 262_144, 32
 PATCH, LENGTH = 100, 101
 
 
@@ -410,6 +438,13 @@ def answer(tag, a, b, c, d, e, name, image):
             # words past the end count as 0
             u = lambda width: unsigned(image, a, width)
             return ["ok", u(1), u(2), u(4), u(8), as_signed(u(4))]
+        if tag == 18:
+            return ["ok"] + cell_at(image, a, b)
+        if tag == 19:
+            before = bytes(x % 256 for x in pattern[:e])
+            out = bytearray(before)
+            written = put(out, b, a, c + 2 ** 32 * d)
+            return ["ok", int(written)] + summed(out) + [sum(x == y for x, y in zip(out, before))]
         return ["none"]
     except Refused as r:
         return ["refused", r.number, r.position]
@@ -459,7 +494,7 @@ def cases(read):
             length = words[0]
             image = None
         else:
-            if tag in (4, 13) and words[3] > ROOM_MOST or tag in (5, 14) and words[4] > ROOM_MOST:
+            if tag in (4, 13) and words[3] > ROOM_MOST or tag in (5, 14) and words[4] > ROOM_MOST or tag == 19 and words[4] > BYTES_MOST:
                 bad("room")
             if image is None:
                 image = bytes(kept[:length])

@@ -84,6 +84,8 @@ fn function(tag: u32) -> &'static str {
         13 => "record's values",
         14 => "record's subkeys",
         15 => "record's lookup",
+        18 => "cell",
+        19 => "number written",
         _ => "?",
     }
 }

@@ -6,6 +6,8 @@ use base_block::BlockAnswer;
 use base_block::Checksum;
 use base_block::FileFormat;
 use base_block::FileType;
+use cell::CellAnswer;
+use cell::CellSize;
 use cell_key_node::KeyAnswer;
 use cell_key_node::KeyNode;
 use cell_key_node::ValueListAnswer;
@@ -326,6 +328,55 @@ fn words_at(image: &[u8], at: usize) {
     lines::signed(words::i32_at(image, at));
 }
 
+fn cell_size(size: CellSize) {
+    lines::word(size.magnitude);
+    lines::flag(size.allocated);
+}
+
+fn cell_line(answer: CellAnswer) {
+    match answer {
+        CellAnswer::Held(size) => {
+            lines::text(b" ok held");
+            cell_size(size);
+        }
+        CellAnswer::TooSmall(size) => {
+            lines::text(b" ok small");
+            cell_size(size);
+        }
+        CellAnswer::Refused(refusal) => refused(refusal),
+    }
+}
+
+// The number of a case's words c and d, or its lower part, written at the place b in the width a.
+fn put_number(case: Case, out: &mut [u8]) -> bool {
+    let at = case.b as usize;
+    let width = case.a;
+    match width {
+        2 => words::put_u16(out, at, (case.c % 65536) as u16),
+        4 => words::put_u32(out, at, case.c),
+        _ => words::put_u64(out, at, case.c as u64 + 4294967296 * (case.d as u64)),
+    }
+}
+
+fn put_line(case: Case, out: &mut [u8]) {
+    places::prefill_bytes(out);
+    let written = put_number(case, out);
+    lines::text(b" ok");
+    lines::flag(written);
+    lines::row(out);
+    places::untouched_bytes(out);
+}
+
+fn put(case: Case) {
+    let mut bytes = [0u8; 32];
+    let n = case.e as usize;
+    if 32 < n {
+        lines::text(b" bad room");
+        return;
+    }
+    put_line(case, &mut bytes[0..n]);
+}
+
 // A case that has a buffer, with its first places lent.
 fn with_room(tag: u8, case: Case, image: &[u8], out: &mut [u32], room: u32) {
     let n = room as usize;
@@ -358,6 +409,8 @@ pub fn answer(tag: u8, case: Case, image: &[u8], name: &[u8], out: &mut [u32]) {
         13 => with_room(tag, case, image, out, case.d),
         14 => with_room(tag, case, image, out, case.e),
         15 => lookup_of(image, case, name),
+        18 => cell_line(cell::cell_at(image, case.a as usize, case.b as usize)),
+        19 => put(case),
         _ => lines::text(b" none"),
     }
 }

@@ -15,6 +15,19 @@ pub fn prefill(out: &mut [u32]) {
     }
 }
 
+// The same of a buffer of bytes, in 8 bits.
+const BYTE_STEP: u8 = 177;
+
+pub fn prefill_bytes(out: &mut [u8]) {
+    let mut x: u8 = 0;
+    let mut i: usize = 0;
+    while i < out.len() {
+        x = std::num::wrapping_add_u8(x, BYTE_STEP);
+        out[i] = x;
+        i += 1;
+    }
+}
+
 // 1 where a place from `from` on holds the pattern's number.
 fn holds(out: &[u32], i: usize, from: usize, x: u32) -> u64
     ensures { λ r. ⌜ r ≤ 1 ⌝ }
@@ -52,4 +65,19 @@ pub fn written(out: &[u32], count: u32) {
         lines::number(sums.running);
     }
     untouched(out, n);
+}
+
+// How many places of a buffer of bytes hold the pattern.
+pub fn untouched_bytes(out: &[u8]) {
+    let mut x: u8 = 0;
+    let mut count: u64 = 0;
+    let mut i: usize = 0;
+    while i < out.len() {
+        x = std::num::wrapping_add_u8(x, BYTE_STEP);
+        if words::byte_at(out, i) == x {
+            count = std::num::wrapping_add_u64(count, 1);
+        }
+        i += 1;
+    }
+    lines::number(count);
 }

@@ -4,3 +4,4 @@ pub mod Signed
 pub mod Parts
 pub mod Papers
 pub mod Buffers
+pub mod Writing

@@ -37,6 +37,8 @@ impl Rng {
 // ---- the stream
 
 const IMAGE_MOST: usize = 524_288;
+/// one more than the greatest tag of a case
+const TAGS: usize = 20;
 const ENOUGH: u32 = 1024;
 const BUDGET: u32 = 65536;
 
@@ -52,14 +54,14 @@ struct Out<W: Write> {
     want_length: usize,
     changed: std::ops::Range<usize>,
     /// of each tag one case in so many is taken (0: none), and of these, where a list is given, those that it marks
-    one_in: [u64; 16],
+    one_in: [u64; TAGS],
     pick: Rng,
     marked: Option<Vec<u8>>,
     taken: usize,
     cases: u64,
 }
 impl<W: Write> Out<W> {
-    fn new(to: W, one_in: [u64; 16], seed: u64) -> Self {
+    fn new(to: W, one_in: [u64; TAGS], seed: u64) -> Self {
         let none = vec![0; IMAGE_MOST];
         Out { to, words: [0; 5], name: vec![], has: none.clone(), has_length: 0, want: none, want_length: 0, changed: 0..0, one_in, pick: Rng(seed), marked: None, taken: 0, cases: 0 }
     }
@@ -715,6 +717,8 @@ fn hive(o: &mut Out<impl Write>, m: &[u8], few: bool) {
     for p in places {
         let sign = &m[p + 4..p + 6];
         if few && seen > 12 && (p / 8) % 7 != 0 { continue; }
+        let least = match sign { b"nk" => 80, b"vk" => 24, b"lf" | b"lh" | b"li" | b"ri" => 8, _ => 0 };
+        if !few && least > 0 { o.case(18, &[p as u32, least], None); }
         match sign {
             b"nk" if p + 80 <= m.len() => {
                 seen += 1;
@@ -766,19 +770,65 @@ fn hives(o: &mut Out<impl Write>, r: &mut Rng, files: &[String], cuts: usize, da
 fn stored(o: &mut Out<impl Write>, seed: u64, files: &[String], rust: bool) {
     o.pick = Rng(seed);
     //                   checksum, block, db, values, walk, key, value, lookup, hash, bins, list, words, and three by the record
+    // and all of the tags from 16 on, which the Rust does not have and which draw nothing, so that the picks above stay
+    let whole = |first: [u64; 16]| -> [u64; TAGS] { std::array::from_fn(|i| if i < 16 { first[i] } else if rust { 0 } else { 1 }) };
     let shares: [[u64; 16]; 3] = if rust {
         [[0, 16, 24, 60, 20, 24, 6, 16, 0, 0, 0, 24, 0, 0, 0, 0], [0, 4, 2, 8, 2, 2, 2, 6, 0, 0, 0, 6, 0, 0, 0, 0], [0, 3, 6, 6, 3, 2, 2, 6, 0, 0, 0, 2, 0, 0, 0, 0]]
     } else {
         [[0, 8, 80, 10, 3, 7, 10, 10, 4, 1, 1, 12, 1, 1, 1, 1], [0, 8, 16, 8, 1, 1, 5, 5, 1, 1, 2, 3, 3, 2, 2, 2], [0, 3, 12, 3, 2, 1, 3, 3, 3, 1, 1, 1, 0, 2, 2, 2]]
     };
-    o.one_in = if rust { [0, 1, 1, 1, 1, 1, 1, 1, 0, 0, 0, 1, 0, 0, 0, 0] } else { [1; 16] };
+    o.one_in = whole(if rust { [0, 1, 1, 1, 1, 1, 1, 1, 0, 0, 0, 1, 0, 0, 0, 0] } else { [1; 16] });
     boundaries(o);
-    o.one_in = shares[0];
+    o.one_in = whole(shares[0]);
     fixed(o);
-    o.one_in = shares[1];
+    o.one_in = whole(shares[1]);
     rounds(o, &mut Rng(seed), 20, SMALL);
-    o.one_in = shares[2];
+    o.one_in = whole(shares[2]);
     hives(o, &mut Rng(seed), files, 1, 3);
+    cells(o, &mut Rng(seed), 200);
+    puts(o, &mut Rng(seed), 200);
+}
+
+// ---- cells, and numbers written into a buffer: boundaries, and `random` others
+
+fn cells(o: &mut Out<impl Write>, r: &mut Rng, random: u64) {
+    let p = 5;
+    for left in [0usize, 3, 4, 5, 8, 24] {
+        let mut m: Vec<u8> = (1..).take(p + left).collect();
+        o.image(&m);
+        for at in [p, p + left, p + left + 1, u32::MAX as usize] { for least in [0, 4] { o.case(18, &[at as u32, least], None); } }
+        if left < 4 { continue; }
+        let n = left as i32;
+        for size in [0, 1, 4, 7, 8, n - 1, n, n + 1, i32::MAX] { for word in [size, -size, i32::MIN] {
+            put32(&mut m, p, word as u32);
+            o.image(&m);
+            let size = word.unsigned_abs();
+            for least in [0, 4, size.saturating_sub(1), size, size + 1, u32::MAX] { o.case(18, &[p as u32, least], None); }
+        } }
+    }
+    for _ in 0..random {
+        let n = r.range(0, 40);
+        let mut m = r.bytes(n);
+        let at = r.range(0, n + 2);
+        let size = r.range(0, n + 4) as i32;
+        if at + 4 <= n && !r.chance(4) { put32(&mut m, at, if r.chance(2) { size } else { -size } as u32); }
+        let least = if r.chance(3) { size as u32 } else { r.below(44) as u32 };
+        o.case(18, &[at as u32, least], Some(&m));
+    }
+}
+
+fn puts(o: &mut Out<impl Write>, r: &mut Rng, random: u64) {
+    for width in [2u32, 4, 8] { for room in [0, 1, width - 1, width, width + 1, 32] {
+        let last = room.saturating_sub(width);
+        for at in [0, last, last + 1, room, room + 1, u32::MAX] { for (low, high) in [(0, 0), (0x0403_0201, 0x0807_0605), (u32::MAX, u32::MAX)] {
+            o.case(19, &[width, at, low, high, room], None);
+        } }
+    } }
+    for _ in 0..random {
+        let (width, room) = (r.pick(&[2, 4, 8]), r.below(33) as u32);
+        let (at, low, high) = (r.below(34) as u32, r.word(), r.word());
+        o.case(19, &[width, at, low, high, room], None);
+    }
 }
 
 // ---- random rounds
@@ -938,16 +988,16 @@ fn main() {
     let args: Vec<String> = std::env::args().skip(1).collect();
     let number = |i: usize| args.get(i).and_then(|s| s.parse::<u64>().ok());
     let to = BufWriter::with_capacity(1 << 16, std::io::stdout().lock());
-    let mut o = Out::new(to, [1; 16], 0);
+    let mut o = Out::new(to, [1; TAGS], 0);
     match (args.first().map(|s| s.as_str()), number(0), number(1)) {
-        (Some("fixed"), _, _) => { boundaries(&mut o); fixed(&mut o); wide(&mut o) }
+        (Some("fixed"), _, _) => { boundaries(&mut o); fixed(&mut o); wide(&mut o); cells(&mut o, &mut Rng(0), 0); puts(&mut o, &mut Rng(0), 0) }
         (Some("hives"), _, Some(seed)) => hives(&mut o, &mut Rng(seed), &args[2..], 12, 40),
         (Some("stored"), _, Some(seed)) => stored(&mut o, seed, &args[2..], false),
         (Some("stored-rust"), _, Some(seed)) => {
             if args[2] != "-" { o.marked = Some(std::fs::read(&args[2]).expect("a list of marks")); }
             stored(&mut o, seed, &args[3..], true)
         }
-        (_, Some(seed), Some(n)) => rounds(&mut o, &mut Rng(seed), n, USUAL),
+        (_, Some(seed), Some(n)) => { rounds(&mut o, &mut Rng(seed), n, USUAL); cells(&mut o, &mut Rng(seed), 10 * n); puts(&mut o, &mut Rng(seed), 10 * n) }
         _ => { eprintln!("usage: cases fixed | hives SEED FILE.. | stored SEED FILE.. | stored-rust SEED MARKS FILE.. | SEED ROUNDS"); std::process::exit(2) }
     }
     o.to.flush().unwrap();

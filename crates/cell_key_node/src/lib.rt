@@ -8,7 +8,7 @@ ghost use Rattle.words.specs.Parts.{Part};
 ghost use Rattle.cell_key_node.specs.Records.{sizeOf, cellFault, faultAt, recordAt, recordPaper};
 ghost use Rattle.cell_key_node.specs.Key.{keyOf, keyAt, keyPaper, keyName, keyNameAt, keySlack, keySlackAt};
 ghost use Rattle.cell_key_node.specs.ValueList.{placeOf, placePaper, upTo, entryOf, ListAnswered};
-ghost use Rattle.sub_key_walk.specs.Answers.{Answered as Walked};
+ghost use Rattle.sub_key_walk.specs.Answers.{measured, walkPaper, WalkAnswered};
 use sub_key_walk::COUNT_LIMIT;
 use sub_key_walk::WalkAnswer;
 use words::Refusal;
@@ -325,9 +325,18 @@ pub fn sub_keys_of(
     budget: u32,
     out: &mut [u32],
 ) -> WalkAnswer
-    ensures { λ r. ⌜ Walked (now (image .entry)) base (key .«number_of_sub_keys») (key .«sub_keys_list_offset_relative») budget (now (out .entry)) r (now (out .exit)) ⌝ }
+    ensures { λ r. ⌜ WalkAnswered (now (image .entry)) base (key .«number_of_sub_keys») (key .«sub_keys_list_offset_relative») budget (now (out .entry)) r (now (out .exit)) ⌝ }
 {
     let count = key.number_of_sub_keys;
     let list = key.sub_keys_list_offset_relative;
     sub_key_walk::sub_keys(image, base, count, list, budget, out)
+}
+
+// What that walk counts, with no regard to room: the places that its offsets need among it. Nothing is written.
+pub fn sub_key_counts_of(image: &[u8], base: u32, key: KeyNode, budget: u32) -> WalkAnswer
+    ensures { λ r. ⌜ walkPaper r ≡ measured (now (image .entry)) base (key .«number_of_sub_keys») (key .«sub_keys_list_offset_relative») budget ⌝ }
+{
+    let subkeys = key.number_of_sub_keys;
+    let first = key.sub_keys_list_offset_relative;
+    sub_key_walk::sub_key_counts(image, base, subkeys, first, budget)
 }

@@ -14,7 +14,7 @@ leaf-same : (s t : List ℕ) (p base size k pos : ℕ) → SameBehind s t p → 
 unfolding leafKept
 leaf-same s t p base size zero pos h l = refl
 leaf-same s t p base size (suc k) pos h l =
-    rw (little-same 4 s t pos (λ i a b. h .bytes i (omega arith)), leaf-same s t p base size k (pos + size) h (omega arith))
+    rw (little-same 4 s t pos pos (λ i k. h .bytes (pos + i) (omega arith)), leaf-same s t p base size k (pos + size) h (omega arith))
 
 only-same : (s t : List ℕ) (base p : ℕ) (a : Paper Listed) → SameBehind s t p → onlyLeaf s base p a ≡ onlyLeaf t base p a
 unfolding onlyLeaf
@@ -27,7 +27,7 @@ module _ (s t : List ℕ) (p : ℕ) (h : SameBehind s t p) where
   pub size-word-unused : listAt s p ≡ listAt t p
   unfolding listAt
   size-word-unused =
-      rw (h .length, little-same 2 s t (p + 4) (λ i a b. h .bytes i (omega arith)), little-same 2 s t (p + 6) (λ i a b. h .bytes i (omega arith)))
+      rw (h .length, little-same 2 s t (p + 4) (p + 4) (λ i k. h .bytes (p + 4 + i) (omega arith)), little-same 2 s t (p + 6) (p + 6) (λ i k. h .bytes (p + 6 + i) (omega arith)))
 
   -- and what a leaf list gives
   pub size-word-unused-leaf : (base : ℕ) → leafAt s base p ≡ leafAt t base p

@@ -2,7 +2,8 @@
 use words::Refusal;
 ghost use mathlib.Core.Path.{_≡_};
 ghost use lib.ListN.{length};
-ghost use Prim.Native.Nat.{_-_};
+ghost use Prim.Native.Nat.{_+_, _-_, _≤_};
+ghost use Rattle.words.specs.Words.{word16};
 ghost use Rattle.words.specs.Paper.{refused, by};
 ghost use Rattle.sub_key_list.specs.Lists.{listPaper, listAt, entrySize};
 
@@ -60,6 +61,14 @@ fn refuse(number: u32, position: usize) -> SubKeyList
     SubKeyList::Refused(Refusal { number, position })
 }
 
+// The 16-bit word at a place whose two bytes are there.
+fn half(image: &[u8], at: usize) -> u16
+    requires { ⌜ at + 2 ≤ length (now image) ⌝ }
+    ensures { λ r. ⌜ r ≡ word16 (now (image .entry)) at ⌝ }
+{
+    words::join2(image[at], image[at + 1])
+}
+
 // How many bytes stand from a position on.
 fn bytes_from(image: &[u8], position: usize) -> usize
     ensures { λ r. ⌜ r ≡ length (now (image .entry)) - position ⌝ }
@@ -82,8 +91,8 @@ pub fn read_list(image: &[u8], position: usize) -> SubKeyList
     if left < 8 {
         return refuse(words::CUT_SHORT, position);
     }
-    let signature = words::u16_at(image, position + 4);
-    let count = words::u16_at(image, position + 6);
+    let signature = half(image, position + 4);
+    let count = half(image, position + 6);
     let size = entry_size(signature);
     if size == 0 {
         return refuse(words::BAD_SIGN, position);

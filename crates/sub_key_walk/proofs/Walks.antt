@@ -22,10 +22,10 @@ use Rattle.sub_key_list.specs.declared.SubKeyList.the-variants as found
 use Rattle.words.specs.declared.Refusal.{Refusal}
 use Rattle.sub_key_list.proofs.Leaves.{leaf-few}
 use Rattle.sub_key_walk.specs.Trace.{Event, deep, bad, index, leaf, each, below, trace, keptIn, keptOf, listsIn, entriesIn}
-use Rattle.sub_key_walk.specs.Judge.{fault, counted, inBudget, one, after, judge}
-use Rattle.sub_key_walk.specs.Answers.{BUDGET-LIMIT, walkPaper}
+use Rattle.sub_key_walk.specs.Judge.{fault, counts, counted, inBudget, one, after, judge}
+use Rattle.sub_key_walk.specs.Answers.{walkPaper}
 use Rattle.sub_key_walk.specs.Leaf.{readOf}
-use Rattle.sub_key_walk.specs.Walk.{listed, Fit, Bounded, Walk}
+use Rattle.sub_key_walk.specs.Walk.{Bounded, Walk}
 use Rattle.sub_key_walk.specs.declared.LeafRead.{LeafRead}
 use Rattle.sub_key_walk.specs.declared.Counts.{Counts}
 use Rattle.sub_key_walk.specs.declared.WalkRefusal.{WalkRefusal}
@@ -163,8 +163,8 @@ module _ (budget : ℕ) (st : Counts) (es : List Event) where
   walk-refused : {r : WalkAnswer} {x : Told} → walkPaper r ≡ refused x → refused x ≡ judge budget st es → Walk budget st es r
   walk-refused e f = record { answer = e ∙ f; bounded = λ t q. absurd (refused-read e q) }
 
-  walk-read : (t : Counts) → success t ≡ judge budget st es → Bounded budget t → Walk budget st es (Read t)
-  walk-read t e b = record { answer = e; bounded = λ u q. subst (Bounded budget) (same-read q) b }
+  walk-read : {r : WalkAnswer} (t : Counts) → r ≡ Read t → success t ≡ judge budget st es → Bounded budget t → Walk budget st es r
+  walk-read t p e b = record { answer = ap walkPaper p ∙ e; bounded = λ u q. subst (Bounded budget) (same-read (sym p ∙ q)) b }
 
 -- what a walk that succeeds says of the definition
 pub walk-success : {budget : ℕ} {st : Counts} {es : List Event} {r : WalkAnswer} {t : Counts}
@@ -175,6 +175,14 @@ walk-success w q = sym (w .answer) ∙ ap walkPaper q
 
 pub counts-path : {a b : Counts} → a .kept ≡ b .kept → a .lists ≡ b .lists → a .entries ≡ b .entries → a ≡ b
 counts-path p q r = λ i. record { kept = p i; lists = q i; entries = r i }
+
+-- an `ri` list counts as a list and gives nothing else
+abbrev pub passed : Counts → Counts
+passed st = counts (st .kept) (st .lists + 1) (st .entries)
+
+passed-is : (st : Counts) (p n : ℕ) → passed st ≡ counted st (index p n)
+unfolding counted keptIn listsIn entriesIn
+passed-is st p n = counts-path (omega arith) refl (omega arith)
 
 -- ---- the loop over the entries of an `ri` list
 
@@ -227,7 +235,6 @@ module _ (hd : ℕ → ℕ → Paper Listed) (budget : ℕ) (st : Counts) (level
 pub record Reached (hd : ℕ → ℕ → Paper Listed) (budget : ℕ) (st : Counts) (levels : ℕ) (s : List ℕ) (base offset : ℕ) (g : SubKeyList) : Type 0 where
   pub deeper : levels ≡ 0 → ⊥
   pub unspent : st .lists ≡ budget → ⊥
-  pub small : budget ≤ BUDGET-LIMIT
   pub few : Bounded budget st
   pub is : hd levels (offset + base) ≡ listPaper g
 
@@ -238,69 +245,50 @@ module _ {hd : ℕ → ℕ → Paper Listed} {budget : ℕ} {st : Counts} {level
       walk-refused budget st (trace hd levels s base offset) e
       (judge-bad hd budget st levels s base offset (x .deeper) (x .unspent) _ (x .is))
 
-  -- a list more is counted: the counts fit, and stay small
-  module _ {g : SubKeyList} (x : Reached hd budget st levels s base offset g) {k n : ℕ} (a : k ≤ n) (b : n < 65536) where
-    pub list-fits : Fit st k n
-    list-fits =
+  module _ {l : LeafList} (x : Reached hd budget st levels s base offset (found.Leaf l)) (m : l .count < 65536) {r : LeafRead}
+      (p : r ≡ readOf (leafOf s base (offset + base) (l .«entry_size») (l .count))) where
+    -- a leaf list that is counted keeps the counts small
+    pub leaf-bounded : Bounded budget (counts (st .kept + r .kept) (st .lists + 1) (st .entries + r .entries))
+    leaf-bounded =
         let u : st .lists ≡ budget → ⊥ = x .unspent in
         let few : Bounded budget st = x .few in
-        let m : budget ≤ BUDGET-LIMIT = x .small in
-        record { fit-kept = omega arith; fit-lists = omega arith; fit-entries = omega arith }
+        let a : r .kept ≡ length (leafOf s base (offset + base) (l .«entry_size») (l .count) .kept) = ap (λ (c : LeafRead). c .kept) p in
+        let b : r .entries ≡ l .count = ap (λ (c : LeafRead). c .entries) p in
+        let k = leaf-few s base (l .«entry_size») (l .count) (offset + base + 8) in
+        record { some-kept = omega arith; some-entries = omega arith; some-lists = omega arith }
 
-    list-few : Bounded budget (listed st k n)
-    list-few =
+    pub walk-leaf : {w : WalkAnswer} → w ≡ Read (counts (st .kept + r .kept) (st .lists + 1) (st .entries + r .entries)) → Walk budget st (trace hd levels s base offset) w
+    unfolding counted keptIn listsIn entriesIn
+    walk-leaf q =
+        walk-read budget st (trace hd levels s base offset) _ q
+        (ap (λ (c : LeafRead). success (counts (st .kept + c .kept) (st .lists + 1) (st .entries + c .entries))) p
+        ∙ judge-leaf hd budget st levels s base offset (x .deeper) (x .unspent) (l .signature) (l .«entry_size») (l .count) (x .is))
+        leaf-bounded
+
+  module _ {l : IndexList} (x : Reached hd budget st levels s base offset (found.Index l)) where
+    pub index-bounded : Bounded budget (passed st)
+    index-bounded =
         let u : st .lists ≡ budget → ⊥ = x .unspent in
         let few : Bounded budget st = x .few in
         record { some-kept = omega arith; some-entries = omega arith; some-lists = omega arith }
 
-  module _ {l : LeafList} (x : Reached hd budget st levels s base offset (found.Leaf l)) (m : l .count < 65536) {r : LeafRead}
-      (p : r ≡ readOf (leafOf s base (offset + base) (l .«entry_size») (l .count))) where
-    abbrev few-kept : r .kept ≤ r .entries
-    few-kept =
-        let a : r .kept ≡ length (leafOf s base (offset + base) (l .«entry_size») (l .count) .kept) = ap (λ (c : LeafRead). c .kept) p in
-        let b : r .entries ≡ l .count = ap (λ (c : LeafRead). c .entries) p in
-        omega (arith, leaf-few s base (l .«entry_size») (l .count) (offset + base + 8))
-
-    abbrev few-entries : r .entries < 65536
-    few-entries = let b : r .entries ≡ l .count = ap (λ (c : LeafRead). c .entries) p in omega arith
-
-    pub leaf-fits : Fit st (r .kept) (r .entries)
-    leaf-fits = list-fits x few-kept few-entries
-
-    pub walk-leaf : {t : Counts} → t ≡ listed st (r .kept) (r .entries) → Walk budget st (trace hd levels s base offset) (Read t)
-    unfolding counted keptIn listsIn entriesIn
-    walk-leaf {t} q =
-        walk-read budget st (trace hd levels s base offset) t
-        (ap success (q ∙ ap (λ (c : LeafRead). listed st (c .kept) (c .entries)) p)
-        ∙ judge-leaf hd budget st levels s base offset (x .deeper) (x .unspent) (l .signature) (l .«entry_size») (l .count) (x .is))
-        (subst (Bounded budget) (sym q) (list-few x few-kept few-entries))
-
-  module _ {l : IndexList} (x : Reached hd budget st levels s base offset (found.Index l)) where
-    pub index-fits : Fit st 0 0
-    index-fits = list-fits x (omega arith) (omega arith)
-
-    pub index-few : {t : Counts} → t ≡ listed st 0 0 → Bounded budget t
-    index-few q = subst (Bounded budget) (sym q) (list-few x (omega arith) (omega arith))
-
     -- the lists below an `ri` list, from the counts that the code builds
-    below-index : {t : Counts} → t ≡ listed st 0 0
-        → judge budget t (each (trace hd (levels - 1) s base) s (l .count) (offset + base + 8)) ≡ judge budget st (trace hd levels s base offset)
-    unfolding counted keptIn listsIn entriesIn
-    below-index q =
-        ap (λ (c : Counts). judge budget c (each (trace hd (levels - 1) s base) s (l .count) (offset + base + 8))) q
+    below-index : judge budget (passed st) (each (trace hd (levels - 1) s base) s (l .count) (offset + base + 8)) ≡ judge budget st (trace hd levels s base offset)
+    below-index =
+        ap (λ (c : Counts). judge budget c (each (trace hd (levels - 1) s base) s (l .count) (offset + base + 8))) (passed-is st (offset + base) (l .count))
         ∙ judge-index hd budget st levels s base offset (x .deeper) (x .unspent) (l .count) (x .is)
 
-    module _ {t : Counts} (q : t ≡ listed st 0 0) {sum : Counts} {pos i : ℕ}
-        (v : Indexing budget (trace hd (levels - 1) s base) s (l .count) (offset + base + 8) t sum pos i) where
-      pub walk-index : l .count ≤ i → Walk budget st (trace hd levels s base offset) (Read sum)
-      walk-index m =
-          walk-read budget st (trace hd levels s base offset) sum
-          (indexing-answer budget (trace hd (levels - 1) s base) s (l .count) (offset + base + 8) t sum pos i v m ∙ below-index q)
+    module _ {sum : Counts} {pos i : ℕ}
+        (v : Indexing budget (trace hd (levels - 1) s base) s (l .count) (offset + base + 8) (passed st) sum pos i) where
+      pub walk-index : l .count ≤ i → {w : WalkAnswer} → w ≡ Read sum → Walk budget st (trace hd levels s base offset) w
+      walk-index m q =
+          walk-read budget st (trace hd levels s base offset) sum q
+          (indexing-answer budget (trace hd (levels - 1) s base) s (l .count) (offset + base + 8) (passed st) sum pos i v m ∙ below-index)
           (v .few)
 
       pub walk-index-refused : i < l .count → {next : ℕ} → next ≡ word32 s pos → {w : WalkAnswer} {f : WalkRefusal}
           → Walk budget sum (trace hd (levels - 1) s base next) w → w ≡ Refused f → Walk budget st (trace hd levels s base offset) (Refused f)
       walk-index-refused m {next} d {w} {f} y e =
           walk-refused budget st (trace hd levels s base offset) refl
-          (indexing-refused budget (trace hd (levels - 1) s base) s (l .count) (offset + base + 8) t sum pos i v m next d y (ap walkPaper e)
-          ∙ below-index q)
+          (indexing-refused budget (trace hd (levels - 1) s base) s (l .count) (offset + base + 8) (passed st) sum pos i v m next d y (ap walkPaper e)
+          ∙ below-index)

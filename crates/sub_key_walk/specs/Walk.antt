@@ -40,16 +40,6 @@ pub record Filled (ks old : List ℕ) (place r : ℕ) (new : List ℕ) : Type 0 
 
 -- ---- the counts
 
--- the counts with a list more that keeps so many of so many entries
-abbrev pub listed : Counts → ℕ → ℕ → Counts
-listed st k n = counts (st .kept + k) (st .lists + 1) (st .entries + n)
-
--- they fit 32 bits
-pub record Fit (st : Counts) (k n : ℕ) : Type 0 where
-  pub fit-kept : st .kept + k < 4294967296
-  pub fit-lists : st .lists + 1 < 4294967296
-  pub fit-entries : st .entries + n < 4294967296
-
 -- the counts of a walk stay small
 pub record Bounded (budget : ℕ) (st : Counts) : Type 0 where
   pub some-kept : st .kept ≤ st .entries

@@ -10,10 +10,10 @@ ghost use Rattle.words.specs.Words.{word32};
 ghost use Rattle.words.specs.Paper.{refused, noRoom};
 ghost use Rattle.sub_key_list.specs.Leaves.{keep, leafKept, dropOne, leafDropped, leafOf};
 ghost use Rattle.sub_key_walk.specs.Trace.{trace, ordinary, keptOf};
-ghost use Rattle.sub_key_walk.specs.Judge.{fault};
-ghost use Rattle.sub_key_walk.specs.Answers.{BUDGET-LIMIT, none, measured, walkTold, walkPaper, WalkAnswered};
+ghost use Rattle.sub_key_walk.specs.Judge.{fault, counts};
+ghost use Rattle.sub_key_walk.specs.Answers.{BUDGET-LIMIT, measured, walkTold, walkPaper, WalkAnswered};
 ghost use Rattle.sub_key_walk.specs.Leaf.{readOf, LeafAnswered};
-ghost use Rattle.sub_key_walk.specs.Walk.{Entries, Stands, Whole, Filled, listed, Fit, Bounded, Walk, Roomy};
+ghost use Rattle.sub_key_walk.specs.Walk.{Entries, Stands, Whole, Filled, Bounded, Walk, Roomy};
 
 // The greatest budget, the greatest count of subkeys or of values, and the levels of lists.
 const BUDGET_LIMIT: u32 = 65536;
@@ -87,27 +87,15 @@ fn refuse(number: u32, position: usize, lists: u32) -> WalkAnswer
     WalkAnswer::Refused(refusal(number, position, lists))
 }
 
-// No list is read yet.
-fn no_counts() -> Counts
-    ensures { λ r. ⌜ r ≡ none ⌝ }
+// What is read so far: offsets kept, lists and entries.
+fn read_so_far(kept: u32, lists: u32, entries: u32) -> WalkAnswer
+    ensures { λ r. ⌜ r ≡ WalkAnswer.Read (counts kept lists entries) ⌝ }
 {
-    Counts {
-        kept: 0,
-        lists: 0,
-        entries: 0,
-    }
-}
-
-// The counts with a list more, which keeps so many of so many entries.
-fn with_list(done: Counts, kept: u32, entries: u32) -> Counts
-    requires { ⌜ Fit done kept entries ⌝ }
-    ensures { λ r. ⌜ r ≡ listed done kept entries ⌝ }
-{
-    Counts {
-        kept: done.kept + kept,
-        lists: done.lists + 1,
-        entries: done.entries + entries,
-    }
+    WalkAnswer::Read(Counts {
+        kept,
+        lists,
+        entries,
+    })
 }
 
 // The word at a place whose four bytes are there.
@@ -297,20 +285,21 @@ pub fn leaf_sub_keys(image: &[u8], base: u32, position: usize, out: &mut [u32]) 
     }
 }
 
-// Measures the walk of the list at an offset, with so many levels left and after the counts `done`.
+// Measures the walk of the list at an offset, with so many levels left, after so many offsets kept, lists read and entries.
 fn measure(
     image: &[u8],
     base: u32,
     budget: u32,
     levels: u32,
     offset: u32,
-    done: Counts,
+    kept: u32,
+    lists: u32,
+    entries: u32,
 ) -> WalkAnswer
-    requires { ⌜ budget ≤ BUDGET-LIMIT ⌝ ∗ ⌜ Bounded budget done ⌝ }
-    ensures { λ r. ⌜ Walk budget done (trace (ordinary (now (image .entry))) levels (now (image .entry)) base offset) r ⌝ }
+    requires { ⌜ budget ≤ BUDGET-LIMIT ⌝ ∗ ⌜ Bounded budget (counts kept lists entries) ⌝ }
+    ensures { λ r. ⌜ Walk budget (counts kept lists entries) (trace (ordinary (now (image .entry))) levels (now (image .entry)) base offset) r ⌝ }
 {
     let position = (offset as usize) + (base as usize);
-    let lists = done.lists;
     if levels == 0 {
         return refuse(words::TOO_DEEP, position, lists);
     }
@@ -321,27 +310,34 @@ fn measure(
         SubKeyList::Refused(fault) => refuse(fault.number, position, lists),
         SubKeyList::Leaf(leaf) => {
             let read = read_leaf(image, base, position, leaf);
-            WalkAnswer::Read(with_list(done, read.kept, read.entries))
+            let kept_after = kept + read.kept;
+            let lists_after = lists + 1;
+            let entries_after = entries + read.entries;
+            read_so_far(kept_after, lists_after, entries_after)
         }
         SubKeyList::Index(index) => {
             let count = index.count;
-            let mut sum = with_list(done, 0, 0);
+            let mut k = kept;
+            let mut l = lists + 1;
+            let mut e = entries;
             let mut pos = position + 8;
             let mut i: u16 = 0;
             while i < count {
-                let next = words::u32_at(image, pos);
-                match measure(image, base, budget, levels - 1, next, sum) {
+                let next = word(image, pos);
+                match measure(image, base, budget, levels - 1, next, k, l, e) {
                     WalkAnswer::Refused(fault) => {
                         return WalkAnswer::Refused(fault);
                     }
-                    WalkAnswer::Read(counts) => {
-                        sum = counts;
+                    WalkAnswer::Read(sum) => {
+                        k = sum.kept;
+                        l = sum.lists;
+                        e = sum.entries;
                     }
                 }
                 pos = pos + 4;
                 i = i + 1;
             }
-            WalkAnswer::Read(sum)
+            read_so_far(k, l, e)
         }
     }
 }
@@ -373,7 +369,7 @@ fn fill(
             let mut from = position + 8;
             let mut k: u16 = 0;
             while k < count {
-                let next = words::u32_at(image, from);
+                let next = word(image, from);
                 to = fill(image, base, left - 1, next, whole, out, to);
                 from = from + 4;
                 k = k + 1;
@@ -394,11 +390,10 @@ pub fn sub_key_counts(image: &[u8], base: u32, count: u32, list: u32, budget: u3
     if COUNT_LIMIT < count {
         return refuse(words::TOO_MANY, 0, 0);
     }
-    let none = no_counts();
     if count == 0 {
-        return WalkAnswer::Read(none);
+        return read_so_far(0, 0, 0);
     }
-    measure(image, base, budget, LEVELS, list, none)
+    measure(image, base, budget, LEVELS, list, 0, 0, 0)
 }
 
 // The subkeys of a key record with a subkey count and the offset of its list, into `out`.

@@ -41,11 +41,11 @@ little-split m (suc n) s at =
     rw (add-suc m n, little-split m n s at, ← add-assoc at m n, pow-add 256 m n, swapped)
     (omega (arith, mul-add (256 ^ m) (little n s (at + m)) (b * 256 ^ n)))
 
--- a word depends on its own bytes alone
-pub little-same : (n : ℕ) (s t : List ℕ) (at : ℕ) → ((i : ℕ) → at ≤ i → i < at + n → byteAt s i ≡ byteAt t i) → little n s at ≡ little n t at
+-- words of the same bytes are the same
+pub little-same : (n : ℕ) (s t : List ℕ) (a b : ℕ) → ((i : ℕ) → i < n → byteAt s (a + i) ≡ byteAt t (b + i)) → little n s a ≡ little n t b
 unfolding little
-little-same zero s t at h = refl
-little-same (suc n) s t at h = rw (little-same n s t at (λ i a b. h i a (omega arith)), h (at + n) (omega arith) (omega arith))
+little-same zero s t a b h = refl
+little-same (suc n) s t a b h = rw (little-same n s t a b (λ i k. h i (omega arith)), h n (omega arith))
 
 -- what stands from a position on has the same words
 pub little-drop : (n k : ℕ) (s : List ℕ) (at : ℕ) → little n (drop k s) at ≡ little n s (k + at)

@@ -15,7 +15,7 @@ use lib.Seq.{sets, sets-eq, length-sets, drop-cons, take-at, drop-at, take-appen
 use borrow.Author.Tests.{le-leb, lt-leb, leb-true, leb-false}
 use Rattle.words.specs.Words.{byteAt, little}
 use Rattle.words.specs.Writing.{bytesOf, withBytes, PutAt}
-use Rattle.words.proofs.Little.{Bytes, little-split, little-drop}
+use Rattle.words.proofs.Little.{Bytes, little-split, little-drop, little-same}
 
 -- ---- the bytes of a number
 
@@ -72,12 +72,6 @@ bytes-there zero s b at h = refl
 bytes-there (suc n) s b at h =
     word-bytes n s b at ∙ ap (λ (r : List ℕ). byteAt s at ∷ r) (bytes-there n s b (at + 1) (omega arith) ∙ rw add-one)
     ∙ sym (ap (take (suc n)) (drop-cons s at 0 (omega arith)))
-
--- words of the same bytes are the same
-pub little-same : (n : ℕ) (s t : List ℕ) (a b : ℕ) → ((i : ℕ) → i < n → byteAt s (a + i) ≡ byteAt t (b + i)) → little n s a ≡ little n t b
-unfolding little
-little-same zero s t a b h = refl
-little-same (suc n) s t a b h = rw (little-same n s t a b (λ i k. h i (omega arith)), h n (omega arith))
 
 -- read again where they stand in a row
 pub row-read : (xs ys : List ℕ) (n x : ℕ) → little n (xs ++ (bytesOf n x ++ ys)) (length xs) ≡ x % 256 ^ n

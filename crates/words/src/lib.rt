@@ -80,9 +80,9 @@ fn starts(s: &[u8], more: usize) -> usize
     if more < s.len() { s.len() - more } else { 0 }
 }
 
-// The number of two bytes, of four and of eight, the lowest first. Four are public, for a loop behind a check that has been made:
-// it reads bytes by plain indexes.
-fn join2(a: u8, b: u8) -> u16
+// The number of two bytes, of four and of eight, the lowest first. Two and four are public, for what reads bytes by plain indexes
+// behind a check that has been made.
+pub fn join2(a: u8, b: u8) -> u16
     ensures { λ r. ⌜ r ≡ a + 256 * b ⌝ }
 {
     (a as u16) + 256 * (b as u16)

@@ -22,17 +22,17 @@ returns-2 : tie.Need-returns-2
 returns-2 c =
     c .refuse2 .ensures ∙ list-cut _ _ (c .before .before .before .if1 .left) (c .before .before .bytes-from .ensures) (c .before .if2 .taken)
 
-add-u16-at : tie.Need-add-u16-at
-add-u16-at c = search needs
+add-half : tie.Need-add-half
+add-half c = search needs
 
-u16-at-requires : tie.Need-u16-at-requires
-u16-at-requires c κs = search needs
+half-requires : tie.Need-half-requires
+half-requires c κs = search needs
 
-add-u16-at-2 : tie.Need-add-u16-at-2
-add-u16-at-2 c = search needs
+add-half-2 : tie.Need-add-half-2
+add-half-2 c = search needs
 
-u16-at-requires-2 : tie.Need-u16-at-requires-2
-u16-at-requires-2 c κs = search needs
+half-requires-2 : tie.Need-half-requires-2
+half-requires-2 c κs = search needs
 
 entry-size-requires : tie.Need-entry-size-requires
 entry-size-requires c κs = search needs
@@ -43,7 +43,7 @@ refuse-requires-3 c κs = search needs
 returns-3 : tie.Need-returns-3
 returns-3 c =
     let e = c .before .before in
-    c .refuse3 .ensures ∙ list-unknown _ _ (e .before .before .before .before .before .if1 .left) (e .before .before .before .before .bytes-from .ensures) (e .before .before .before .if2 .left) (e .before .before .u16-at .ensures) (e .before .u16-at2 .ensures) (e .entry-size .ensures) (c .before .if3 .taken)
+    c .refuse3 .ensures ∙ list-unknown _ _ (e .before .before .before .before .before .if1 .left) (e .before .before .before .before .bytes-from .ensures) (e .before .before .before .if2 .left) (e .before .before .half .ensures) (e .before .half2 .ensures) (e .entry-size .ensures) (c .before .if3 .taken)
 
 cast-entries : tie.Need-cast-entries
 cast-entries c = search needs
@@ -53,7 +53,7 @@ cast-entries-2 c = search needs
 
 mul-entries : tie.Need-mul-entries
 mul-entries c =
-    omega (arith, entries-fit (c .before .entry-size .result) (c .before .before .u16-at2 .result) (c .before .entry-size .ok) (c .before .before .u16-at2 .ok))
+    omega (arith, entries-fit (c .before .entry-size .result) (c .before .before .half2 .result) (c .before .entry-size .ok) (c .before .before .half2 .ok))
 
 refuse-requires-4 : tie.Need-refuse-requires-4
 refuse-requires-4 c κs = search needs
@@ -61,17 +61,17 @@ refuse-requires-4 c κs = search needs
 returns-4 : tie.Need-returns-4
 returns-4 c =
     let e = c .before .before .before in
-    c .refuse4 .ensures ∙ list-passes _ _ (e .before .before .before .before .before .if1 .left) (e .before .before .before .before .bytes-from .ensures) (e .before .before .before .if2 .left) (e .before .before .u16-at .ensures) (e .before .u16-at2 .ensures) (e .entry-size .ensures) (c .before .before .if3 .left) (c .before .if4 .taken)
+    c .refuse4 .ensures ∙ list-passes _ _ (e .before .before .before .before .before .if1 .left) (e .before .before .before .before .bytes-from .ensures) (e .before .before .before .if2 .left) (e .before .before .half .ensures) (e .before .half2 .ensures) (e .entry-size .ensures) (c .before .before .if3 .left) (c .before .if4 .taken)
 
 returns-5 : tie.Need-returns-5
 returns-5 c =
     let e = c .before .before .before in
-    list-index _ _ (e .before .before .before .before .before .if1 .left) (e .before .before .before .before .bytes-from .ensures) (e .before .before .before .if2 .left) (e .before .before .u16-at .ensures) (e .before .u16-at2 .ensures) (e .entry-size .ensures) (c .before .before .if3 .left) (c .before .if4 .left) (c .if5 .taken)
+    list-index _ _ (e .before .before .before .before .before .if1 .left) (e .before .before .before .before .bytes-from .ensures) (e .before .before .before .if2 .left) (e .before .before .half .ensures) (e .before .half2 .ensures) (e .entry-size .ensures) (c .before .before .if3 .left) (c .before .if4 .left) (c .if5 .taken)
 
 returns-6 : tie.Need-returns-6
 returns-6 c =
     let e = c .before .before .before in
-    list-leaf _ _ (e .before .before .before .before .before .if1 .left) (e .before .before .before .before .bytes-from .ensures) (e .before .before .before .if2 .left) (e .before .before .u16-at .ensures) (e .before .u16-at2 .ensures) (e .entry-size .ensures) (c .before .before .if3 .left) (c .before .if4 .left) (c .if5 .left)
+    list-leaf _ _ (e .before .before .before .before .before .if1 .left) (e .before .before .before .before .bytes-from .ensures) (e .before .before .before .if2 .left) (e .before .before .half .ensures) (e .before .half2 .ensures) (e .entry-size .ensures) (c .before .before .if3 .left) (c .before .if4 .left) (c .if5 .left)
 
 pub read-list-spec : {M : Type 1} → statement M
 read-list-spec =
@@ -82,10 +82,10 @@ read-list-spec =
     bytes-from-requires
     refuse-requires-2
     returns-2
-    add-u16-at
-    u16-at-requires
-    add-u16-at-2
-    u16-at-requires-2
+    add-half
+    half-requires
+    add-half-2
+    half-requires-2
     entry-size-requires
     refuse-requires-3
     returns-3

@@ -4,6 +4,7 @@ use native.Mathlib.Omega.{arith}
 use borrow.Author.Needs.{needs}
 use Rattle.sub_key_list.specs.Lists.{listPaper}
 use Rattle.sub_key_walk.specs.Trace.{trace, ordinary}
+use Rattle.sub_key_walk.proofs.Traces.{entry-of-index}
 use Rattle.sub_key_walk.proofs.Fills.{Spreading, spreading-start, spreading-room, spreading-step, spreading-end, fill-deep, fill-bad, leaf-room, leaf-whole, fill-leaf, index-room, fill-index}
 use Prim.Native.Nat.{ℕ, _<_}
 use borrow.Fn.Kinds.{In}
@@ -13,7 +14,7 @@ use Rattle.sub_key_walk.proofs.fill.Kinds as fill-kinds
 use Rattle.sub_key_walk.proofs.+fill.Lts-fill as fill-lts
 use Rattle.sub_key_list.proofs.read_list.Reads as read-list-reads
 use Rattle.sub_key_walk.proofs.fill_leaf.Reads as fill-leaf-reads
-use Rattle.words.proofs.u32_at.Reads as u32-at-reads
+use Rattle.sub_key_walk.proofs.word.Reads as word-reads
 use Rattle.sub_key_walk.proofs.+fill.{statement}
 use Rattle.sub_key_walk.proofs.+fill.Tie.{close}
 
@@ -27,7 +28,7 @@ abbrev fill-below : ℕ → In 2 fill-kinds.ps
 fill-below t = and 2 fill-kinds.ps (falls 2 fill-kinds.ps _<_ μ-fill t) fill.Pre
 
 abbrev callees : ℕ → fill-lts.Claims
-callees t = (read-list-reads.Asked, read-list-reads.Learnt, fill-leaf-reads.Asked, fill-leaf-reads.Learnt, u32-at-reads.Asked, u32-at-reads.Learnt, fill-below t, fill.Post)
+callees t = (read-list-reads.Asked, read-list-reads.Learnt, fill-leaf-reads.Asked, fill-leaf-reads.Learnt, word-reads.Asked, word-reads.Learnt, fill-below t, fill.Post)
 
 abbrev fill-Inv-loop : fill-lts.InvT-loop
 fill-Inv-loop image base left offset whole out₀ place position count to₀ from₀ k₀ out to from k =
@@ -69,8 +70,10 @@ fill-loop-holds t c =
     let a = c .before .before .before .before .before .before .before .args in
     spreading-start (trace (ordinary (a .image .now)) (a .left - 1) (a .image .now) (a .base)) (a .image .now) _ _ (a .whole) (a .out .now) (a .place) (index-room (ordinary (a .image .now)) (a .left) (a .image .now) (a .base) (a .offset) (c .before .before .before .before .if1 .left) (sym (c .before .before .before .read-list .ensures) ∙ ap listPaper (c .before .index .given .1)) (c .before .before .before .before .before .before .before .pre .1))
 
-fill-u32-at-requires : (t : ℕ) → fill-lts.Need-u32-at-requires (callees t) (fill-at t) fill.Post fill-Inv-loop fill-μ-loop
-fill-u32-at-requires t c κs = search needs
+fill-word-requires : (t : ℕ) → fill-lts.Need-word-requires (callees t) (fill-at t) fill.Post fill-Inv-loop fill-μ-loop
+fill-word-requires t c κs =
+    let a = c .before .before .before .before .before .before .before .before .before .args in
+    entry-of-index (a .image .now) _ _ _ _ (sym (c .before .before .before .before .before .read-list .ensures) ∙ ap listPaper (c .before .before .before .index .given .1)) (c .loop-test .taken) (c .before .loop .inv .near)
 
 fill-sub-fill : (t : ℕ) → fill-lts.Need-sub-fill (callees t) (fill-at t) fill.Post fill-Inv-loop fill-μ-loop
 fill-sub-fill t c = search needs
@@ -78,7 +81,7 @@ fill-sub-fill t c = search needs
 fill-fill-requires : (t : ℕ) → fill-lts.Need-fill-requires (callees t) (fill-at t) fill.Post fill-Inv-loop fill-μ-loop
 fill-fill-requires t c κs =
     let a = c .before .before .before .before .before .before .before .before .before .before .before .args in
-    (omega (arith, c .before .before .before .before .before .before .before .before .before .before .before .pre .0, c .before .before .before .before .before .before .before .before .if1 .left), spreading-room (trace (ordinary (a .image .now)) (a .left - 1) (a .image .now) (a .base)) (a .image .now) _ _ (a .whole) (a .out .now) (a .place) _ _ _ _ (c .before .before .before .loop .inv) (c .before .before .loop-test .taken) _ (c .before .u32-at .ensures))
+    (omega (arith, c .before .before .before .before .before .before .before .before .before .before .before .pre .0, c .before .before .before .before .before .before .before .before .if1 .left), spreading-room (trace (ordinary (a .image .now)) (a .left - 1) (a .image .now) (a .base)) (a .image .now) _ _ (a .whole) (a .out .now) (a .place) _ _ _ _ (c .before .before .before .loop .inv) (c .before .before .loop-test .taken) _ (c .before .word .ensures))
 
 fill-add-from-2 : (t : ℕ) → fill-lts.Need-add-from-2 (callees t) (fill-at t) fill.Post fill-Inv-loop fill-μ-loop
 fill-add-from-2 t c = search needs
@@ -92,7 +95,7 @@ fill-loop-less t c = search needs
 fill-loop-again : (t : ℕ) → fill-lts.Need-loop-again (callees t) (fill-at t) fill.Post fill-Inv-loop fill-μ-loop
 fill-loop-again t c =
     let a = c .before .before .before .before .before .before .before .before .before .before .before .before .before .before .args in
-    spreading-step (trace (ordinary (a .image .now)) (a .left - 1) (a .image .now) (a .base)) (a .image .now) _ _ (a .whole) (a .out .now) (a .place) _ _ _ _ (c .before .before .before .before .before .before .loop .inv) (c .before .before .before .before .before .loop-test .taken) _ (c .before .before .before .before .u32-at .ensures) (c .before .before .fill .ensures)
+    spreading-step (trace (ordinary (a .image .now)) (a .left - 1) (a .image .now) (a .base)) (a .image .now) _ _ (a .whole) (a .out .now) (a .place) _ _ _ _ (c .before .before .before .before .before .before .loop .inv) (c .before .before .before .before .before .loop-test .taken) _ (c .before .before .before .before .word .ensures) (c .before .before .fill .ensures)
 
 fill-returns-2 : (t : ℕ) → fill-lts.Need-returns-2 (callees t) (fill-at t) fill.Post fill-Inv-loop fill-μ-loop
 fill-returns-2 t c =
@@ -120,8 +123,8 @@ pub +fill-spec : {M : Type 1} → statement M
   read-list-reads.Learnt,
   fill-leaf-reads.Asked,
   fill-leaf-reads.Learnt,
-  u32-at-reads.Asked,
-  u32-at-reads.Learnt,
+  word-reads.Asked,
+  word-reads.Learnt,
   fill-below t,
   fill.Post,
 )
@@ -138,7 +141,7 @@ pub +fill-spec : {M : Type 1} → statement M
     (fill-enum-known-index t)
     (fill-add-from t)
     (fill-loop-holds t)
-    (fill-u32-at-requires t)
+    (fill-word-requires t)
     (fill-sub-fill t)
     (fill-fill-requires t)
     (fill-add-from-2 t)

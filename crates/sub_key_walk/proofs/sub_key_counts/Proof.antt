@@ -1,9 +1,5 @@
-use mathlib.Core.Path.{refl, sym, ap, subst, _∙_}
-use native.Mathlib.Omega.{arith}
-use Rattle.words.specs.Paper.{success}
-use Rattle.sub_key_walk.specs.Trace.{walkFrom}
-use Rattle.sub_key_walk.specs.Judge.{judge}
-use Rattle.sub_key_walk.specs.Walk.{Bounded}
+use mathlib.Core.Path.{sym, ap, _∙_}
+use Rattle.sub_key_walk.specs.Answers.{walkPaper}
 use Rattle.sub_key_walk.proofs.Answers.{measured-budget, measured-many, measured-none, measured-walk}
 use borrow.Author.Needs.{needs}
 use Rattle.sub_key_walk.proofs.sub_key_counts.Statement.{statement}
@@ -23,20 +19,19 @@ returns-2 : tie.Need-returns-2
 returns-2 c =
     let a = c .before .before .before .before .args in c .refuse2 .ensures ∙ measured-many (a .image .now) (a .base) (a .count) (a .list) (a .budget) (c .before .before .if1 .left) (c .before .if2 .taken)
 
-no-counts-requires : tie.Need-no-counts-requires
-no-counts-requires c κs = search needs
+read-so-far-requires : tie.Need-read-so-far-requires
+read-so-far-requires c κs = search needs
 
 returns-3 : tie.Need-returns-3
 returns-3 c =
-    let a = c .before .before .before .before .before .args in ap success (c .before .no-counts .ensures) ∙ measured-none (a .image .now) (a .base) (a .count) (a .list) (a .budget) (c .before .before .before .if1 .left) (c .before .before .if2 .left) (c .if3 .taken)
+    let a = c .before .before .before .before .before .args in ap walkPaper (c .read-so-far .ensures) ∙ measured-none (a .image .now) (a .base) (a .count) (a .list) (a .budget) (c .before .before .before .if1 .left) (c .before .before .if2 .left) (c .before .if3 .taken)
 
 measure-requires : tie.Need-measure-requires
-measure-requires c κs =
-    let a = c .before .before .before .before .before .args in (c .before .before .before .if1 .left, subst (Bounded (a .budget)) (sym (c .before .no-counts .ensures)) (record { some-kept = omega arith; some-entries = omega arith; some-lists = omega arith }))
+measure-requires c κs = search needs
 
 returns-4 : tie.Need-returns-4
 returns-4 c =
-    let a = c .before .before .before .before .before .before .args in c .measure .ensures .answer ∙ ap (λ t. judge (a .budget) t (walkFrom (a .image .now) (a .base) (a .list))) (c .before .before .no-counts .ensures) ∙ sym (measured-walk (a .image .now) (a .base) (a .count) (a .list) (a .budget) (record { small = c .before .before .before .before .if1 .left; few = c .before .before .before .if2 .left; some = c .before .if3 .left }))
+    let a = c .before .before .before .before .before .args in c .measure .ensures .answer ∙ sym (measured-walk (a .image .now) (a .base) (a .count) (a .list) (a .budget) (record { small = c .before .before .before .if1 .left; few = c .before .before .if2 .left; some = c .before .if3 .left }))
 
 pub sub-key-counts-spec : {M : Type 1} → statement M
 sub-key-counts-spec =
@@ -46,7 +41,7 @@ sub-key-counts-spec =
     returns
     refuse-requires-2
     returns-2
-    no-counts-requires
+    read-so-far-requires
     returns-3
     measure-requires
     returns-4)

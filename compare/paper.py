@@ -205,7 +205,30 @@ def one_list(image, position):
     return sign, each, count
 
 
-def walk(image, count, offset, base, budget, out):
+def kept_of(named, base):
+    # "A leaf entry whose offset plus base is 4,294,967,296 or more is dropped; others are kept as that sum."
+    return [x + base for x in named if x + base < 4_294_967_296]
+
+
+def leaf(image, base, position, out):
+    """One leaf list by itself: no walk reads lists, so none is told."""
+    # the refusals of one list
+    sign, each, n = one_list(image, position)
+    # 4: "a signature is not one expected": an `ri` list has no leaf entries
+    if sign == b"ri":
+        raise Refused(BAD_SIGN, position)
+    kept = kept_of([unsigned(image, position + 8 + each * i, 4) for i in range(n)], base)
+    # "9 comes after all others"; "the places needed and the walk's entry count", here the list's
+    if len(kept) > len(out):
+        raise Refused(NO_ROOM, 0, 0, len(kept), n)
+    # "On success the output is written from the first place on"
+    out[:len(kept)] = kept
+    # "offsets kept .. and leaf entries, dropped ones included"
+    return kept, n
+
+
+def walked(image, count, offset, base, budget):
+    """The walk with no regard to room: its refusals without 9."""
     # "From a key record: 13, then 7; count 0 succeeds and reads nothing."
     if budget > MOST_BUDGET:
         raise Refused(BAD_BUDGET)
@@ -235,14 +258,18 @@ def walk(image, count, offset, base, budget, out):
         else:
             # "leaf entries, dropped ones included"
             entries += n
-            # "A leaf entry whose offset plus base is 4,294,967,296 or more is dropped; others are kept as that sum."
-            kept.extend(x + base for x in named if x + base < 4_294_967_296)
+            kept.extend(kept_of(named, base))
+    # "The answer gives offsets kept, lists read, and leaf entries"
+    return kept, lists, entries
+
+
+def walk(image, count, offset, base, budget, out):
+    kept, lists, entries = walked(image, count, offset, base, budget)
     # "9 comes after all others"; "the lists read so far"; "the places needed and the walk's entry count"
     if len(kept) > len(out):
         raise Refused(NO_ROOM, 0, lists, len(kept), entries)
     # "On success the output is written from the first place on"
     out[:len(kept)] = kept
-    # "The answer gives offsets kept, lists read, and leaf entries"
     return kept, lists, entries
 
 
@@ -383,7 +410,7 @@ def whole_value(image, position):
 
 
 def by_record(tag, a, c, d, e, name, image):
-    """The walk, the value list and the lookup from the key record at a position: its own counts and offsets."""
+    """The walk, what it counts, the value list and the lookup from the key record at a position: its own counts and offsets."""
     try:
         key = key_record(image, a)
     except Refused as r:
@@ -393,12 +420,14 @@ def by_record(tag, a, c, d, e, name, image):
         return answer(4, values, value_list_at, c, d, e, name, image)
     if tag == 14:
         return answer(5, subkeys, subkey_list, c, d, e, name, image)
+    if tag == 20:
+        return answer(17, subkeys, subkey_list, c, d, e, name, image)
     return answer(8, values, value_list_at, c, d, e, name, image)
 
 
 def answer(tag, a, b, c, d, e, name, image):
     as_signed = lambda x: x - 2 ** 32 if x >= 2 ** 31 else x
-    if tag in (13, 14, 15):
+    if tag in (13, 14, 15, 20):
         return by_record(tag, a, c, d, e, name, image)
     if tag == 4:
         out = pattern[:d]
@@ -414,6 +443,19 @@ def answer(tag, a, b, c, d, e, name, image):
             return ["ok", len(kept), lists, entries] + sums(kept) + [untouched(out, len(kept))]
         except Refused as r:
             return ["refused", r.number, r.position, r.lists, r.places, r.entries, untouched(out, 0)]
+    if tag == 16:
+        out = pattern[:e]
+        try:
+            kept, entries = leaf(image, c, a + 2 ** 32 * b, out)
+            return ["ok", len(kept), entries] + sums(kept) + [untouched(out, len(kept))]
+        except Refused as r:
+            return ["refused", r.number, r.position, r.lists, r.places, r.entries, untouched(out, 0)]
+    if tag == 17:
+        try:
+            kept, lists, entries = walked(image, a, b, c, d)
+            return ["ok", len(kept), lists, entries]
+        except Refused as r:
+            return ["refused", r.number, r.position, r.lists, r.places, r.entries]
     if tag == 6:
         return with_part(image, a, key_record, 2)
     if tag == 7:
@@ -494,7 +536,7 @@ def cases(read):
             length = words[0]
             image = None
         else:
-            if tag in (4, 13) and words[3] > ROOM_MOST or tag in (5, 14) and words[4] > ROOM_MOST or tag == 19 and words[4] > BYTES_MOST:
+            if tag in (4, 13) and words[3] > ROOM_MOST or tag in (5, 14, 16) and words[4] > ROOM_MOST or tag == 19 and words[4] > BYTES_MOST:
                 bad("room")
             if image is None:
                 image = bytes(kept[:length])

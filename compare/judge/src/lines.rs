@@ -84,8 +84,11 @@ fn function(tag: u32) -> &'static str {
         13 => "record's values",
         14 => "record's subkeys",
         15 => "record's lookup",
+        16 => "leaf list",
+        17 => "walk's counts",
         18 => "cell",
         19 => "number written",
+        20 => "record's counts",
         _ => "?",
     }
 }

@@ -18,7 +18,9 @@ use hive_bin::BinsAnswer;
 use name_hash::HashAnswer;
 use replay_case::Case;
 use sub_key_list::SubKeyList;
+use sub_key_walk::LeafAnswer;
 use sub_key_walk::WalkAnswer;
+use sub_key_walk::WalkRefusal;
 use words::Refusal;
 
 fn size(n: usize) {
@@ -147,6 +149,15 @@ fn values_of(image: &[u8], case: Case, out: &mut [u32]) {
     }
 }
 
+fn walk_refused(refusal: WalkRefusal) {
+    lines::text(b" refused");
+    lines::word(refusal.number);
+    size(refusal.position);
+    lines::word(refusal.lists);
+    lines::word(refusal.places);
+    lines::word(refusal.entries);
+}
+
 fn walk_line(answer: WalkAnswer, out: &[u32]) {
     match answer {
         WalkAnswer::Read(counts) => {
@@ -157,12 +168,7 @@ fn walk_line(answer: WalkAnswer, out: &[u32]) {
             places::written(out, counts.kept);
         }
         WalkAnswer::Refused(refusal) => {
-            lines::text(b" refused");
-            lines::word(refusal.number);
-            size(refusal.position);
-            lines::word(refusal.lists);
-            lines::word(refusal.places);
-            lines::word(refusal.entries);
+            walk_refused(refusal);
             places::untouched(out, 0);
         }
     }
@@ -180,6 +186,55 @@ fn walk_of(image: &[u8], case: Case, out: &mut [u32]) {
             places::prefill(out);
             let answer = cell_key_node::sub_keys_of(image, case.c, key, case.d, out);
             walk_line(answer, out);
+        }
+        KeyAnswer::Refused(refusal) => refused(refusal),
+    }
+}
+
+fn leaf_line(answer: LeafAnswer, out: &[u32]) {
+    match answer {
+        LeafAnswer::Read(read) => {
+            lines::text(b" ok");
+            lines::word(read.kept);
+            lines::word(read.entries);
+            places::written(out, read.kept);
+        }
+        LeafAnswer::Refused(refusal) => {
+            walk_refused(refusal);
+            places::untouched(out, 0);
+        }
+    }
+}
+
+// The position has 64 bits, the words a and b.
+fn leaf(image: &[u8], case: Case, out: &mut [u32]) {
+    places::prefill(out);
+    let position = case.a as usize + 4294967296 * (case.b as usize);
+    let answer = sub_key_walk::leaf_sub_keys(image, case.c, position, out);
+    leaf_line(answer, out);
+}
+
+fn counts_line(answer: WalkAnswer) {
+    match answer {
+        WalkAnswer::Read(counts) => {
+            lines::text(b" ok");
+            lines::word(counts.kept);
+            lines::word(counts.lists);
+            lines::word(counts.entries);
+        }
+        WalkAnswer::Refused(refusal) => walk_refused(refusal),
+    }
+}
+
+fn counts(image: &[u8], case: Case) {
+    counts_line(sub_key_walk::sub_key_counts(image, case.c, case.a, case.b, case.d));
+}
+
+fn counts_of(image: &[u8], case: Case) {
+    match cell_key_node::read_key_node(image, case.a as usize) {
+        KeyAnswer::Key(key) => {
+            let answer = cell_key_node::sub_key_counts_of(image, case.c, key, case.d);
+            counts_line(answer);
         }
         KeyAnswer::Refused(refusal) => refused(refusal),
     }
@@ -388,6 +443,7 @@ fn with_room(tag: u8, case: Case, image: &[u8], out: &mut [u32], room: u32) {
         4 => values(image, case, &mut out[0..n]),
         5 => walk(image, case, &mut out[0..n]),
         13 => values_of(image, case, &mut out[0..n]),
+        16 => leaf(image, case, &mut out[0..n]),
         _ => walk_of(image, case, &mut out[0..n]),
     }
 }
@@ -409,8 +465,11 @@ pub fn answer(tag: u8, case: Case, image: &[u8], name: &[u8], out: &mut [u32]) {
         13 => with_room(tag, case, image, out, case.d),
         14 => with_room(tag, case, image, out, case.e),
         15 => lookup_of(image, case, name),
+        16 => with_room(tag, case, image, out, case.e),
+        17 => counts(image, case),
         18 => cell_line(cell::cell_at(image, case.a as usize, case.b as usize)),
         19 => put(case),
+        20 => counts_of(image, case),
         _ => lines::text(b" none"),
     }
 }

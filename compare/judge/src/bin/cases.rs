@@ -38,7 +38,7 @@ impl Rng {
 
 const IMAGE_MOST: usize = 524_288;
 /// one more than the greatest tag of a case
-const TAGS: usize = 20;
+const TAGS: usize = 21;
 const ENOUGH: u32 = 1024;
 const BUDGET: u32 = 65536;
 
@@ -58,12 +58,14 @@ struct Out<W: Write> {
     pick: Rng,
     marked: Option<Vec<u8>>,
     taken: usize,
+    /// the words of the last walk whose counts were asked for, while the image stays
+    counted: Option<[u32; 4]>,
     cases: u64,
 }
 impl<W: Write> Out<W> {
     fn new(to: W, one_in: [u64; TAGS], seed: u64) -> Self {
         let none = vec![0; IMAGE_MOST];
-        Out { to, words: [0; 5], name: vec![], has: none.clone(), has_length: 0, want: none, want_length: 0, changed: 0..0, one_in, pick: Rng(seed), marked: None, taken: 0, cases: 0 }
+        Out { to, words: [0; 5], name: vec![], has: none.clone(), has_length: 0, want: none, want_length: 0, changed: 0..0, one_in, pick: Rng(seed), marked: None, taken: 0, counted: None, cases: 0 }
     }
     fn put(&mut self, tag: u8, words: [u32; 5], name: Option<&[u8]>, image: Option<&[u8]>) {
         let mut mask = 0u8;
@@ -124,22 +126,36 @@ impl<W: Write> Out<W> {
     }
     fn bytes(&mut self, at: usize, bytes: &[u8]) {
         let end = at + bytes.len();
+        self.counted = None;
         self.want[at..end].copy_from_slice(bytes);
         self.changed = if self.changed.is_empty() { at..end } else { self.changed.start.min(at)..self.changed.end.max(end) };
     }
-    /// A case with its words; what it does not use stays as it was.
-    fn case(&mut self, tag: u8, words: &[u32], image: Option<&[u8]>) {
+    /// A case with its words; what it does not use stays as it was. Whether it is taken.
+    fn case(&mut self, tag: u8, words: &[u32], image: Option<&[u8]>) -> bool {
         if let Some(m) = image { self.image(m); }
-        if !self.takes(tag) { return; }
+        if !self.takes(tag) { return false; }
         let mut w = self.words;
         w[..words.len()].copy_from_slice(words);
         self.written(tag, w, None);
+        true
     }
-    fn image(&mut self, image: &[u8]) { self.bytes(0, image); self.want_length = image.len(); }
+    fn image(&mut self, image: &[u8]) { self.bytes(0, image); self.length(image.len()); }
     fn patch(&mut self, at: usize, bytes: &[u8]) { self.bytes(at, bytes); }
-    fn length(&mut self, n: usize) { self.want_length = n; }
+    fn length(&mut self, n: usize) { self.counted = None; self.want_length = n; }
     fn values(&mut self, count: u32, offset: u32, base: u32, room: u32) { self.case(4, &[count, offset, base, room], None); }
-    fn walk(&mut self, count: u32, list: u32, base: u32, budget: u32, room: u32) { self.case(5, &[count, list, base, budget, room], None); }
+    /// A walk and, where it is taken, what it counts with no regard to room: once for the rooms that follow each other.
+    fn walk(&mut self, count: u32, list: u32, base: u32, budget: u32, room: u32) {
+        let words = [count, list, base, budget];
+        if self.case(5, &[count, list, base, budget, room], None) && self.counted != Some(words) {
+            self.case(17, &words, None);
+            self.counted = Some(words);
+        }
+    }
+    /// One leaf list at a position of 64 bits.
+    fn leaf(&mut self, at: u64, base: u32, room: u32) {
+        let budget = self.words[3];
+        self.case(16, &[at as u32, (at >> 32) as u32, base, budget, room], None);
+    }
     fn lookup(&mut self, count: u32, offset: u32, base: u32, name: &[u8]) { self.named(8, &[count, offset, base], name); }
     fn named(&mut self, tag: u8, words: &[u32], name: &[u8]) {
         if !self.takes(tag) { return; }
@@ -147,11 +163,11 @@ impl<W: Write> Out<W> {
         w[..words.len()].copy_from_slice(words);
         self.written(tag, w, Some(name));
     }
-    /// Value list, walk and lookup from the key record at a position.
+    /// Value list, walk, its counts and lookup from the key record at a position.
     fn record(&mut self, at: u32, base: u32, budget: u32, room: u32, name: &[u8]) {
         let b = self.words[1];
         self.case(13, &[at, b, base, room], None);
-        self.case(14, &[at, b, base, budget, room], None);
+        if self.case(14, &[at, b, base, budget, room], None) { self.case(20, &[at, b, base, budget], None); }
         self.named(15, &[at, b, base], name);
     }
 }
@@ -577,7 +593,8 @@ fn fixed(o: &mut Out<impl Write>) {
         list(&mut m, 16, y.0, &y.2, y.1);
         for z in &one {
             list(&mut m, 32, z.0, &z.2, z.1);
-            o.case(5, &[1, 0, 0, BUDGET, ENOUGH], Some(&m));
+            o.image(&m);
+            o.walk(1, 0, 0, BUDGET, ENOUGH);
         }
     } }
     // key and value records: sizes, name lengths and image lengths around the fixed part
@@ -690,8 +707,10 @@ fn wide(o: &mut Out<impl Write>) {
         m[4..6].copy_from_slice(kind);
         for k in [n, n - 1, n + 1] {
             put16(&mut m, 6, k as u16);
-            o.case(5, &[1 << 20, 0, 0, BUDGET, 20000], Some(&m));
+            o.image(&m);
+            o.walk(1 << 20, 0, 0, BUDGET, 20000);
             o.case(11, &[0], None);
+            o.leaf(0, 0, 20000);
         }
     }
     let m = r.bytes(65536);
@@ -702,7 +721,8 @@ fn wide(o: &mut Out<impl Write>) {
     put16(&mut m, 6, 65535);
     for i in 0..65535 { put32(&mut m, 8 + 8 * i, i as u32 * 65537); }
     o.image(&m);
-    for base in [0, 65536] { o.walk(1, 0, base, BUDGET, 70000); }
+    for base in [0, 65536] { o.walk(1, 0, base, BUDGET, 70000); o.leaf(0, base, 70000); }
+    for room in [65534, 65535, 65536] { o.leaf(0, 0, room); }
     o.values(131_070, 1, 0, 131_070);
 }
 
@@ -731,7 +751,11 @@ fn hive(o: &mut Out<impl Write>, m: &[u8], few: bool) {
                 if get32(m, p + 40) > 0 { for name in [&b"Value0"[..], b"value1", b"VALUE0000", b""] { o.lookup(get32(m, p + 40), get32(m, p + 44), 4096, name); } }
             }
             b"vk" => { seen += 1; o.case(7, &[p as u32], None); }
-            b"lf" | b"lh" | b"li" | b"ri" => { o.case(11, &[p as u32], None); o.walk(1, (p - 4096) as u32, 4096, BUDGET, ENOUGH); }
+            b"lf" | b"lh" | b"li" | b"ri" => {
+                o.case(11, &[p as u32], None);
+                o.walk(1, (p - 4096) as u32, 4096, BUDGET, ENOUGH);
+                if !few { o.leaf(p as u64, 4096, ENOUGH); }
+            }
             _ => {}
         }
     }
@@ -787,6 +811,7 @@ fn stored(o: &mut Out<impl Write>, seed: u64, files: &[String], rust: bool) {
     hives(o, &mut Rng(seed), files, 1, 3);
     cells(o, &mut Rng(seed), 200);
     puts(o, &mut Rng(seed), 200);
+    leaves(o, &mut Rng(seed), 20, SMALL.0);
 }
 
 // ---- cells, and numbers written into a buffer: boundaries, and `random` others
@@ -828,6 +853,43 @@ fn puts(o: &mut Out<impl Write>, r: &mut Rng, random: u64) {
         let (width, room) = (r.pick(&[2, 4, 8]), r.below(33) as u32);
         let (at, low, high) = (r.below(34) as u32, r.word(), r.word());
         o.case(19, &[width, at, low, high, room], None);
+    }
+}
+
+// ---- one leaf list: each rule on both sides, and `random` images with lists, of at most so many bytes
+
+fn leaves(o: &mut Out<impl Write>, r: &mut Rng, random: u64, most: usize) {
+    let p = 5;
+    for base in [0u32, 16, 1 << 31, u32::MAX] { for kind in [b"li", b"lf", b"lh", b"ri", b"lx", b"Li"] { for count in [0u16, 1, 2, 5, 0xffff] {
+        // offsets on both sides of the drop, the greatest first; a hint is no offset of the list and lies on the other side
+        let top = u32::MAX - base;
+        let offsets = [top, top.wrapping_add(1), 7, u32::MAX, top / 2];
+        let hints = [top.wrapping_add(2), 3, u32::MAX - 1, 1, u32::MAX - 2];
+        let wide = kind[0] == b'l' && (kind[1] == b'f' || kind[1] == b'h');
+        let words: Vec<u32> = if wide { (0..10).map(|i| if i % 2 == 0 { offsets[i / 2] } else { hints[i / 2] }).collect() } else { offsets.to_vec() };
+        let each = if wide { 8 } else { 4 };
+        let end = p + 8 + each * if count == 0xffff { 5 } else { count as usize };
+        let mut m: Vec<u8> = (1..).take(p + 8 + 4 * words.len() + 3).collect();
+        list(&mut m, p, kind, &words, count);
+        o.image(&m);
+        for n in [p - 1, p, p + 1, p + 5, p + 7, p + 8, end - 1, end, end + 1] { o.length(n.min(m.len())); o.leaf(p as u64, base, 8); }
+        o.length(end);
+        for room in 0..7 { o.leaf(p as u64, base, room); }
+        if count != 2 { continue; }
+        let (p, end) = (p as u64, end as u64);
+        for at in [p - 1, p + 1, end - 8, end - 7, end, end + 1, u32::MAX as u64, (1 << 32) + p, (1 << 32) - 1 + end, u64::MAX - 7, u64::MAX] { o.leaf(at, base, 2); }
+    } } }
+    for _ in 0..random {
+        let base = r.pick(&[0usize, 0, 4, 16, 31, 32, most / 4]);
+        let (m, places) = lists(r, base, most);
+        o.image(&m);
+        for p in places {
+            let other = r.pick(&[0u32, base as u32, u32::MAX - (1 << 19), u32::MAX]);
+            let room = r.below(12) as u32;
+            for (base, room) in [(base as u32, ENOUGH), (base as u32, room), (other, ENOUGH)] { o.leaf(p as u64, base, room); }
+            let at = p as u64 + r.below(9);
+            o.leaf(at, base as u32, ENOUGH);
+        }
     }
 }
 
@@ -990,14 +1052,14 @@ fn main() {
     let to = BufWriter::with_capacity(1 << 16, std::io::stdout().lock());
     let mut o = Out::new(to, [1; TAGS], 0);
     match (args.first().map(|s| s.as_str()), number(0), number(1)) {
-        (Some("fixed"), _, _) => { boundaries(&mut o); fixed(&mut o); wide(&mut o); cells(&mut o, &mut Rng(0), 0); puts(&mut o, &mut Rng(0), 0) }
+        (Some("fixed"), _, _) => { boundaries(&mut o); fixed(&mut o); wide(&mut o); cells(&mut o, &mut Rng(0), 0); puts(&mut o, &mut Rng(0), 0); leaves(&mut o, &mut Rng(0), 0, 0) }
         (Some("hives"), _, Some(seed)) => hives(&mut o, &mut Rng(seed), &args[2..], 12, 40),
         (Some("stored"), _, Some(seed)) => stored(&mut o, seed, &args[2..], false),
         (Some("stored-rust"), _, Some(seed)) => {
             if args[2] != "-" { o.marked = Some(std::fs::read(&args[2]).expect("a list of marks")); }
             stored(&mut o, seed, &args[3..], true)
         }
-        (_, Some(seed), Some(n)) => { rounds(&mut o, &mut Rng(seed), n, USUAL); cells(&mut o, &mut Rng(seed), 10 * n); puts(&mut o, &mut Rng(seed), 10 * n) }
+        (_, Some(seed), Some(n)) => { rounds(&mut o, &mut Rng(seed), n, USUAL); cells(&mut o, &mut Rng(seed), 10 * n); puts(&mut o, &mut Rng(seed), 10 * n); leaves(&mut o, &mut Rng(seed), n, USUAL.0) }
         _ => { eprintln!("usage: cases fixed | hives SEED FILE.. | stored SEED FILE.. | stored-rust SEED MARKS FILE.. | SEED ROUNDS"); std::process::exit(2) }
     }
     o.to.flush().unwrap();

@@ -24,9 +24,7 @@ use Rattle.sub_key_list.proofs.Leaves.{leaf-few}
 use Rattle.sub_key_walk.specs.Trace.{Event, deep, bad, index, leaf, each, below, trace, keptIn, keptOf, listsIn, entriesIn}
 use Rattle.sub_key_walk.specs.Judge.{fault, counts, counted, inBudget, one, after, judge}
 use Rattle.sub_key_walk.specs.Answers.{walkPaper}
-use Rattle.sub_key_walk.specs.Leaf.{readOf}
-use Rattle.sub_key_walk.specs.Walk.{Bounded, Walk}
-use Rattle.sub_key_walk.specs.declared.LeafRead.{LeafRead}
+use Rattle.sub_key_walk.specs.Walk.{Bounded, withLeaf, Walk}
 use Rattle.sub_key_walk.specs.declared.Counts.{Counts}
 use Rattle.sub_key_walk.specs.declared.WalkRefusal.{WalkRefusal}
 use Rattle.sub_key_walk.specs.declared.WalkAnswer.{WalkAnswer}
@@ -245,25 +243,17 @@ module _ {hd : ℕ → ℕ → Paper Listed} {budget : ℕ} {st : Counts} {level
       walk-refused budget st (trace hd levels s base offset) e
       (judge-bad hd budget st levels s base offset (x .deeper) (x .unspent) _ (x .is))
 
-  module _ {l : LeafList} (x : Reached hd budget st levels s base offset (found.Leaf l)) (m : l .count < 65536) {r : LeafRead}
-      (p : r ≡ readOf (leafOf s base (offset + base) (l .«entry_size») (l .count))) where
-    -- a leaf list that is counted keeps the counts small
-    pub leaf-bounded : Bounded budget (counts (st .kept + r .kept) (st .lists + 1) (st .entries + r .entries))
-    leaf-bounded =
-        let u : st .lists ≡ budget → ⊥ = x .unspent in
-        let few : Bounded budget st = x .few in
-        let a : r .kept ≡ length (leafOf s base (offset + base) (l .«entry_size») (l .count) .kept) = ap (λ (c : LeafRead). c .kept) p in
-        let b : r .entries ≡ l .count = ap (λ (c : LeafRead). c .entries) p in
-        let k = leaf-few s base (l .«entry_size») (l .count) (offset + base + 8) in
-        record { some-kept = omega arith; some-entries = omega arith; some-lists = omega arith }
-
-    pub walk-leaf : {w : WalkAnswer} → w ≡ Read (counts (st .kept + r .kept) (st .lists + 1) (st .entries + r .entries)) → Walk budget st (trace hd levels s base offset) w
-    unfolding counted keptIn listsIn entriesIn
-    walk-leaf q =
-        walk-read budget st (trace hd levels s base offset) _ q
-        (ap (λ (c : LeafRead). success (counts (st .kept + c .kept) (st .lists + 1) (st .entries + c .entries))) p
-        ∙ judge-leaf hd budget st levels s base offset (x .deeper) (x .unspent) (l .signature) (l .«entry_size») (l .count) (x .is))
-        leaf-bounded
+  -- a leaf list that is counted keeps the counts small
+  pub walk-leaf : {l : LeafList} → Reached hd budget st levels s base offset (found.Leaf l) → l .count < 65536
+      → {w : WalkAnswer} → w ≡ Read (withLeaf st (leafOf s base (offset + base) (l .«entry_size») (l .count))) → Walk budget st (trace hd levels s base offset) w
+  unfolding counted keptIn listsIn entriesIn
+  walk-leaf {l} x m q =
+      let u : st .lists ≡ budget → ⊥ = x .unspent in
+      let few : Bounded budget st = x .few in
+      let k = leaf-few s base (l .«entry_size») (l .count) (offset + base + 8) in
+      walk-read budget st (trace hd levels s base offset) _ q
+      (judge-leaf hd budget st levels s base offset (x .deeper) (x .unspent) (l .signature) (l .«entry_size») (l .count) (x .is))
+      (record { some-kept = omega arith; some-entries = omega arith; some-lists = omega arith })
 
   module _ {l : IndexList} (x : Reached hd budget st levels s base offset (found.Index l)) where
     pub index-bounded : Bounded budget (passed st)

@@ -8,7 +8,7 @@ use lib.ListN.{length}
 use lib.Seq.{sets}
 use Rattle.words.specs.Paper.{success}
 use Rattle.sub_key_list.specs.Lists.{leaf, listAt}
-use Rattle.sub_key_list.specs.Leaves.{leafDropped}
+use Rattle.sub_key_list.specs.Leaves.{Leaf, leafDropped}
 use Rattle.sub_key_list.specs.declared.LeafList.{LeafList}
 use Rattle.sub_key_walk.specs.Trace.{Event, keptIn, keptOf, entriesIn}
 use Rattle.sub_key_walk.specs.Judge.{counts, judge}
@@ -45,6 +45,10 @@ pub record Bounded (budget : ℕ) (st : Counts) : Type 0 where
   pub some-kept : st .kept ≤ st .entries
   pub some-entries : st .entries ≤ 65535 * st .lists
   pub some-lists : st .lists ≤ budget
+
+-- the counts with a leaf list more
+abbrev pub withLeaf : Counts → Leaf → Counts
+withLeaf st l = counts (st .kept + length (l .kept)) (st .lists + 1) (st .entries + l .entries)
 
 -- ---- the walks
 

@@ -13,7 +13,7 @@ ghost use Rattle.sub_key_walk.specs.Trace.{trace, ordinary, keptOf};
 ghost use Rattle.sub_key_walk.specs.Judge.{fault, counts};
 ghost use Rattle.sub_key_walk.specs.Answers.{BUDGET-LIMIT, measured, walkTold, walkPaper, WalkAnswered};
 ghost use Rattle.sub_key_walk.specs.Leaf.{readOf, LeafAnswered};
-ghost use Rattle.sub_key_walk.specs.Walk.{Entries, Stands, Whole, Filled, Bounded, Walk, Roomy};
+ghost use Rattle.sub_key_walk.specs.Walk.{Entries, Stands, Whole, Filled, Bounded, withLeaf, Walk, Roomy};
 
 // The greatest budget, the greatest count of subkeys or of values, and the levels of lists.
 const BUDGET_LIMIT: u32 = 65536;
@@ -285,6 +285,26 @@ pub fn leaf_sub_keys(image: &[u8], base: u32, position: usize, out: &mut [u32]) 
     }
 }
 
+// What is read after so much, with the leaf list that stands at a position counted.
+fn count_leaf(
+    image: &[u8],
+    base: u32,
+    position: usize,
+    leaf: LeafList,
+    kept: u32,
+    lists: u32,
+    entries: u32,
+) -> WalkAnswer
+    requires { ⌜ Stands (now image) position leaf ⌝ ∗ ⌜ Bounded 65535 (counts kept lists entries) ⌝ }
+    ensures { λ r. ⌜ r ≡ WalkAnswer.Read (withLeaf (counts kept lists entries) (leafOf (now (image .entry)) base position (leaf .«entry_size») (leaf .count))) ⌝ }
+{
+    let read = read_leaf(image, base, position, leaf);
+    let kept_after = kept + read.kept;
+    let lists_after = lists + 1;
+    let entries_after = entries + read.entries;
+    read_so_far(kept_after, lists_after, entries_after)
+}
+
 // Measures the walk of the list at an offset, with so many levels left, after so many offsets kept, lists read and entries.
 fn measure(
     image: &[u8],
@@ -308,13 +328,7 @@ fn measure(
     }
     match sub_key_list::read_list(image, position) {
         SubKeyList::Refused(fault) => refuse(fault.number, position, lists),
-        SubKeyList::Leaf(leaf) => {
-            let read = read_leaf(image, base, position, leaf);
-            let kept_after = kept + read.kept;
-            let lists_after = lists + 1;
-            let entries_after = entries + read.entries;
-            read_so_far(kept_after, lists_after, entries_after)
-        }
+        SubKeyList::Leaf(leaf) => count_leaf(image, base, position, leaf, kept, lists, entries),
         SubKeyList::Index(index) => {
             let count = index.count;
             let mut k = kept;

@@ -6,8 +6,9 @@ use Rattle.sub_key_list.specs.Lists.{listPaper}
 use Rattle.sub_key_list.specs.declared.SubKeyList.{SubKeyList}
 use Rattle.sub_key_walk.specs.Trace.{trace, ordinary}
 use Rattle.sub_key_walk.specs.Judge.{counts}
+use Rattle.sub_key_walk.specs.Walk.{Bounded}
 use Rattle.sub_key_walk.proofs.Traces.{entry-of-index}
-use Rattle.sub_key_walk.proofs.Walks.{Indexing, indexing-start, indexing-step, walk-deep, walk-spent, Reached, walk-bad, leaf-bounded, walk-leaf, index-bounded, walk-index, walk-index-refused}
+use Rattle.sub_key_walk.proofs.Walks.{Indexing, indexing-start, indexing-step, walk-deep, walk-spent, Reached, walk-bad, walk-leaf, index-bounded, walk-index, walk-index-refused}
 use Prim.Native.Nat.{ℕ, _<_}
 use borrow.Fn.Kinds.{In}
 use borrow.Fn.PlainCycle.{Measures, is, falls, and}
@@ -15,7 +16,7 @@ use Rattle.sub_key_walk.proofs.measure.Reads as measure
 use Rattle.sub_key_walk.proofs.measure.Kinds as measure-kinds
 use Rattle.sub_key_walk.proofs.+measure.Lts-measure as measure-lts
 use Rattle.sub_key_list.proofs.read_list.Reads as read-list-reads
-use Rattle.sub_key_walk.proofs.read_leaf.Reads as read-leaf-reads
+use Rattle.sub_key_walk.proofs.count_leaf.Reads as count-leaf-reads
 use Rattle.sub_key_walk.proofs.read_so_far.Reads as read-so-far-reads
 use Rattle.sub_key_walk.proofs.refuse.Reads as refuse-reads
 use Rattle.sub_key_walk.proofs.word.Reads as word-reads
@@ -32,7 +33,7 @@ abbrev measure-below : ℕ → In 1 measure-kinds.ps
 measure-below t = and 1 measure-kinds.ps (falls 1 measure-kinds.ps _<_ μ-measure t) measure.Pre
 
 abbrev callees : ℕ → measure-lts.Claims
-callees t = (refuse-reads.Asked, refuse-reads.Learnt, read-list-reads.Asked, read-list-reads.Learnt, read-leaf-reads.Asked, read-leaf-reads.Learnt, read-so-far-reads.Asked, read-so-far-reads.Learnt, word-reads.Asked, word-reads.Learnt, measure-below t, measure.Post)
+callees t = (refuse-reads.Asked, refuse-reads.Learnt, read-list-reads.Asked, read-list-reads.Learnt, count-leaf-reads.Asked, count-leaf-reads.Learnt, word-reads.Asked, word-reads.Learnt, measure-below t, measure.Post, read-so-far-reads.Asked, read-so-far-reads.Learnt)
 
 abbrev measure-Inv-loop : measure-lts.InvT-loop
 measure-Inv-loop image base budget levels offset kept lists entries position count k₀ l₀ e₀ pos₀ i₀ k l e pos i =
@@ -85,23 +86,12 @@ measure-refuse-requires-3 t c κs = search needs
 measure-enum-known-leaf : (t : ℕ) → measure-lts.Need-enum-known-leaf (callees t) (measure-at t) measure.Post measure-Inv-loop measure-μ-loop
 measure-enum-known-leaf t c = search needs
 
-measure-read-leaf-requires : (t : ℕ) → measure-lts.Need-read-leaf-requires (callees t) (measure-at t) measure.Post measure-Inv-loop measure-μ-loop
-measure-read-leaf-requires t c κs =
-    sym (c .before .before .before .read-list .ensures) ∙ ap listPaper (c .before .leaf .given .1)
-
-measure-add-kept-after : (t : ℕ) → measure-lts.Need-add-kept-after (callees t) (measure-at t) measure.Post measure-Inv-loop measure-μ-loop
-measure-add-kept-after t c =
-    let w = leaf-bounded (reached t (c .before .before .before .before .before) _ (c .before .before .before .leaf .given .1)) (omega arith) (c .before .read-leaf .ensures) in search needs
-
-measure-add-lists-after : (t : ℕ) → measure-lts.Need-add-lists-after (callees t) (measure-at t) measure.Post measure-Inv-loop measure-μ-loop
-measure-add-lists-after t c = search needs
-
-measure-add-entries-after : (t : ℕ) → measure-lts.Need-add-entries-after (callees t) (measure-at t) measure.Post measure-Inv-loop measure-μ-loop
-measure-add-entries-after t c =
-    let w = leaf-bounded (reached t (c .before .before .before .before .before .before) _ (c .before .before .before .before .leaf .given .1)) (omega arith) (c .before .before .read-leaf .ensures) in search needs
-
-measure-read-so-far-requires : (t : ℕ) → measure-lts.Need-read-so-far-requires (callees t) (measure-at t) measure.Post measure-Inv-loop measure-μ-loop
-measure-read-so-far-requires t c κs = search needs
+measure-count-leaf-requires : (t : ℕ) → measure-lts.Need-count-leaf-requires (callees t) (measure-at t) measure.Post measure-Inv-loop measure-μ-loop
+measure-count-leaf-requires t c κs =
+    let few = c .before .before .before .before .before .before .before .pre .1 .1 in
+    let u = c .before .before .before .before .if2 .left in
+    let m = c .before .before .before .before .before .before .before .pre .1 .0 in
+    (sym (c .before .before .before .read-list .ensures) ∙ ap listPaper (c .before .leaf .given .1), record { some-kept = omega arith; some-entries = omega arith; some-lists = omega arith })
 
 measure-enum-known-index : (t : ℕ) → measure-lts.Need-enum-known-index (callees t) (measure-at t) measure.Post measure-Inv-loop measure-μ-loop
 measure-enum-known-index t c = search needs
@@ -150,8 +140,8 @@ measure-loop-again : (t : ℕ) → measure-lts.Need-loop-again (callees t) (meas
 measure-loop-again t c =
     indexing-step _ _ _ _ _ _ _ _ _ (c .before .before .before .before .before .before .loop .inv) (c .before .before .before .before .before .loop-test .taken) _ (c .before .before .before .before .word .ensures) _ _ (c .before .before .before .measure .ensures) (c .before .sum .given .1)
 
-measure-read-so-far-requires-2 : (t : ℕ) → measure-lts.Need-read-so-far-requires-2 (callees t) (measure-at t) measure.Post measure-Inv-loop measure-μ-loop
-measure-read-so-far-requires-2 t c κs = search needs
+measure-read-so-far-requires : (t : ℕ) → measure-lts.Need-read-so-far-requires (callees t) (measure-at t) measure.Post measure-Inv-loop measure-μ-loop
+measure-read-so-far-requires t c κs = search needs
 
 measure-returns-4 : (t : ℕ) → measure-lts.Need-returns-4 (callees t) (measure-at t) measure.Post measure-Inv-loop measure-μ-loop
 measure-returns-4 t c =
@@ -159,11 +149,11 @@ measure-returns-4 t c =
 
 measure-returns-5 : (t : ℕ) → measure-lts.Need-returns-5 (callees t) (measure-at t) measure.Post measure-Inv-loop measure-μ-loop
 measure-returns-5 t c =
-    walk-leaf (reached t (c .before .before .before .before .before .before .before) _ (c .before .before .before .before .before .leaf .given .1)) (omega arith) (c .before .before .before .read-leaf .ensures) (c .read-so-far .ensures)
+    walk-leaf (reached t (c .before .before .before .before) _ (c .before .before .leaf .given .1)) (omega arith) (c .count-leaf .ensures)
 
 measure-returns-6 : (t : ℕ) → measure-lts.Need-returns-6 (callees t) (measure-at t) measure.Post measure-Inv-loop measure-μ-loop
 measure-returns-6 t c =
-    walk-index (reached t (c .before .before .before .before .before .before) _ (c .before .before .before .before .index .given .1)) (c .before .before .loop .inv) (c .before .loop-test .left) (c .read-so-far2 .ensures)
+    walk-index (reached t (c .before .before .before .before .before .before) _ (c .before .before .before .before .index .given .1)) (c .before .before .loop .inv) (c .before .loop-test .left) (c .read-so-far .ensures)
 
 pub +measure-spec : {M : Type 1} → statement M
 +measure-spec = close μ-measure λ t. measure-lts.spec (
@@ -171,14 +161,14 @@ pub +measure-spec : {M : Type 1} → statement M
   refuse-reads.Learnt,
   read-list-reads.Asked,
   read-list-reads.Learnt,
-  read-leaf-reads.Asked,
-  read-leaf-reads.Learnt,
-  read-so-far-reads.Asked,
-  read-so-far-reads.Learnt,
+  count-leaf-reads.Asked,
+  count-leaf-reads.Learnt,
   word-reads.Asked,
   word-reads.Learnt,
   measure-below t,
   measure.Post,
+  read-so-far-reads.Asked,
+  read-so-far-reads.Learnt,
 )
     (measure-at t)
     measure.Post
@@ -193,11 +183,7 @@ pub +measure-spec : {M : Type 1} → statement M
     (measure-enum-known-fault t)
     (measure-refuse-requires-3 t)
     (measure-enum-known-leaf t)
-    (measure-read-leaf-requires t)
-    (measure-add-kept-after t)
-    (measure-add-lists-after t)
-    (measure-add-entries-after t)
-    (measure-read-so-far-requires t)
+    (measure-count-leaf-requires t)
     (measure-enum-known-index t)
     (measure-add-l t)
     (measure-add-pos t)
@@ -212,7 +198,7 @@ pub +measure-spec : {M : Type 1} → statement M
     (measure-add-i t)
     (measure-loop-less t)
     (measure-loop-again t)
-    (measure-read-so-far-requires-2 t)
+    (measure-read-so-far-requires t)
     (measure-returns-4 t)
     (measure-returns-5 t)
     (measure-returns-6 t)

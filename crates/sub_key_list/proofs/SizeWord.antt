@@ -4,11 +4,10 @@ use mathlib.Core.List.{List}
 use Prim.Native.Nat.{ℕ, zero, suc, _+_, _≤_}
 use native.Mathlib.Omega.{arith}
 use lib.ListN.{length}
-use Rattle.words.specs.Words.{byteAt, word16}
 use Rattle.words.specs.Paper.{Paper, success, refused}
 use Rattle.words.proofs.Little.{little-same}
-use Rattle.sub_key_list.specs.Lists.{Listed, leaf, index, kindAt, countAt, listAt, SameBehind}
-use Rattle.sub_key_list.specs.Leaves.{keep, leafKept, onlyLeaf, leafAt}
+use Rattle.sub_key_list.specs.Lists.{Listed, leaf, index, listAt, SameBehind}
+use Rattle.sub_key_list.specs.Leaves.{leafKept, onlyLeaf, leafAt}
 
 leaf-same : (s t : List ℕ) (p base size k pos : ℕ) → SameBehind s t p → p + 4 ≤ pos → leafKept s base size k pos ≡ leafKept t base size k pos
 unfolding leafKept

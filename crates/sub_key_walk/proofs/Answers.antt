@@ -8,15 +8,15 @@ use native.Mathlib.Omega.{arith}
 use borrow.Author.Tests.{eq-eqb, ne-eqb, lt-ltb, le-ltb, eqb-true}
 use lib.Dec.{ltb, eqb}
 use lib.ListN.{length, drop}
-use lib.Seq.{sets, sets-eq}
+use lib.Seq.{sets-eq}
 use Rattle.words.specs.Refusals.{TOO-MANY, BAD-BUDGET, BAD-SIGN}
-use Rattle.words.specs.Paper.{Told, Paper, success, refused, by, tell, noRoom, told, onSuccess}
-use Rattle.words.specs.Buffers.{inRoom, Answered}
+use Rattle.words.specs.Paper.{Paper, success, refused, by, noRoom, onSuccess}
+use Rattle.words.specs.Buffers.{inRoom}
 use Rattle.words.specs.declared.Refusal.{Refusal}
 use Rattle.words.proofs.Papers.{success-refused, same-success}
 use Rattle.words.proofs.Buffers.{room-full, room-fits, room-refused, answered-refused, answered-success}
 use Rattle.sub_key_list.specs.Lists.{listAt, listPaper}
-use Rattle.sub_key_list.specs.Leaves.{leafOf, leafKept, onlyLeaf, leafAt}
+use Rattle.sub_key_list.specs.Leaves.{leafOf, leafKept, onlyLeaf}
 use Rattle.sub_key_list.specs.declared.LeafList.{LeafList}
 use Rattle.sub_key_list.specs.declared.IndexList.{IndexList}
 use Rattle.sub_key_list.specs.declared.SubKeyList.the-variants as found
@@ -24,14 +24,13 @@ use Rattle.sub_key_list.proofs.Leaves.{leaf-all}
 use Rattle.sub_key_walk.specs.Trace.{walkFrom, keptOf, entriesOf}
 use Rattle.sub_key_walk.specs.Judge.{fault, judge}
 use Rattle.sub_key_walk.specs.Answers.{BUDGET-LIMIT, COUNT-LIMIT, none, measured, fullOf, answerOf, keptBy, walkTold, walkPaper, WalkAnswered}
-use Rattle.sub_key_walk.specs.Leaf.{readOf, fullLeaf, leafAnswerOf, keptFrom, leafPaper, LeafAnswered}
+use Rattle.sub_key_walk.specs.Leaf.{readOf, fullLeaf, leafAnswerOf, keptFrom, LeafAnswered}
 use Rattle.sub_key_walk.specs.Walk.{Whole, Filled, Roomy}
 use Rattle.sub_key_walk.specs.declared.Counts.{Counts}
 use Rattle.sub_key_walk.specs.declared.WalkRefusal.{WalkRefusal}
 use Rattle.sub_key_walk.specs.declared.WalkAnswer.{WalkAnswer}
 use Rattle.sub_key_walk.specs.declared.WalkAnswer.the-variants.{Read, Refused}
 use Rattle.sub_key_walk.specs.declared.LeafRead.{LeafRead}
-use Rattle.sub_key_walk.specs.declared.LeafAnswer.{LeafAnswer}
 use Rattle.sub_key_walk.specs.declared.LeafAnswer.the-variants as leaf
 use Rattle.sub_key_walk.proofs.Judged.{judge-tally}
 use Rattle.sub_key_walk.proofs.Fills.{nothing-dropped}

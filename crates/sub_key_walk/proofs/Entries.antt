@@ -1,6 +1,6 @@
 -- The loops over the entries of a leaf list, over the size of an entry. Assumes nothing.
 use mathlib.Core.Path.{_≡_, refl, ap, sym, subst, _∙_}
-use mathlib.Core.List.{List, [], _∷_, _++_}
+use mathlib.Core.List.{List, [], _++_}
 use mathlib.Core.Bool.{Bool}
 use Prim.Native.Nat.{ℕ, suc, _+_, _-_, _*_, _≤_, _<_}
 use native.Mathlib.Nat.{sub-zero, add-zero, mul-suc}
@@ -121,11 +121,30 @@ module _ (s : List ℕ) (base size n at i : ℕ) (h : i < n) (z : leafDropped s 
   first-kept : dropOne (word32 s at + base) ≡ 0
   first-kept = omega (arith, dropped-next s base size (n - i) (n - (i + 1)) at (omega arith))
 
-  pub whole-first : {v : ℕ} → v ≡ word32 s at → v + base < 4294967296
+  whole-first : {v : ℕ} → v ≡ word32 s at → v + base < 4294967296
   whole-first e = rw e (kept-below (word32 s at + base) first-kept)
 
-  pub whole-rest : leafDropped s base size (n - (i + 1)) (at + size) ≡ 0
+  whole-rest : leafDropped s base size (n - (i + 1)) (at + size) ≡ 0
   whole-rest = omega (arith, dropped-next s base size (n - i) (n - (i + 1)) at (omega arith))
+
+-- so the next sum fits 32 bits and has a place, and the loop goes on behind it
+pub record WholeNext (s : List ℕ) (base size n first : ℕ) (old : List ℕ) (place : ℕ) (out : List ℕ) (at to i v : ℕ) : Type 0 where
+  pub fits : v + base < 4294967296
+  pub there : to + 1 ≤ length out
+  pub next : Filling s base size n first old place (set out to (v + base)) (at + size) (to + 1) (i + 1)
+  pub rest : leafDropped s base size (n - (i + 1)) (at + size) ≡ 0
+
+pub whole-next : (s : List ℕ) (base size n first : ℕ) (old : List ℕ) (place : ℕ) (out : List ℕ) (at to i v : ℕ) → Filling s base size n first old place out at to i
+    → leafDropped s base size (n - i) at ≡ 0 → i < n → v ≡ word32 s at → WholeNext s base size n first old place out at to i v
+whole-next s base size n first old place out at to i v f z h e =
+    let k : v + base < 4294967296 = whole-first s base size n at i h z e in
+    let r = filling-room s base size n first old place out at to i f h e in
+    record {
+      fits = k;
+      there = omega (arith, ap length (keep-kept (v + base) k));
+      next = filling-step s base size n first old place out at to i f h e (put-kept (v + base) to out k);
+      rest = whole-rest s base size n at i h z;
+    }
 
 pub whole-start : (s : List ℕ) (base size n first : ℕ) → leafDropped s base size n first ≡ 0 → leafDropped s base size (n - 0) first ≡ 0
 whole-start s base size n first z = rw sub-zero z

@@ -1,26 +1,25 @@
 -- The walk that fills: what it writes, list by list. Assumes nothing.
 use mathlib.Core.Path.{_≡_, refl, ap, sym, _∙_}
 use mathlib.Core.List.{List, [], _∷_, _++_, append-nil}
-use mathlib.Core.Bool.{Bool, true}
+use mathlib.Core.Bool.{Bool}
 use Prim.Native.Nat.{ℕ, _+_, _-_, _*_, _≤_, _<_}
 use native.Mathlib.Nat.{sub-zero, add-zero}
 use native.Mathlib.Omega.{arith}
 use lib.ListN.{length, length-append}
 use lib.Seq.{sets, length-sets}
 use Rattle.words.specs.Words.{word32}
-use Rattle.words.specs.Paper.{Told, Paper, success, refused}
+use Rattle.words.specs.Paper.{Paper, success, refused}
 use Rattle.sub_key_list.specs.Lists.{Listed, listAt, listPaper}
 use Rattle.sub_key_list.specs.Lists as lists
-use Rattle.sub_key_list.specs.Leaves.{leafKept, leafDropped, leafOf}
+use Rattle.sub_key_list.specs.Leaves.{leafKept}
 use Rattle.sub_key_list.specs.declared.LeafList.{LeafList}
 use Rattle.sub_key_list.specs.declared.IndexList.{IndexList}
-use Rattle.sub_key_list.specs.declared.SubKeyList.{SubKeyList}
 use Rattle.sub_key_list.specs.declared.SubKeyList.the-variants as found
 use Rattle.words.specs.declared.Refusal.{Refusal}
 use Rattle.sub_key_list.proofs.Leaves.{sets-append, leaf-all}
-use Rattle.sub_key_walk.specs.Trace.{Event, deep, bad, index, leaf, each, below, trace, ordinary, walkFrom, keptIn, keptOf, entriesIn, entriesOf}
+use Rattle.sub_key_walk.specs.Trace.{Event, deep, index, leaf, each, below, trace, ordinary, walkFrom, keptIn, keptOf, entriesIn, entriesOf}
 use Rattle.sub_key_walk.specs.Free.{All}
-use Rattle.sub_key_walk.specs.Walk.{Stands, Whole, Filled, KeepsAll, Roomy}
+use Rattle.sub_key_walk.specs.Walk.{Whole, Filled, KeepsAll, Roomy}
 use Rattle.sub_key_walk.proofs.Walks.{trace-deep, trace-in, each-next, each-none, kept-append}
 use Rattle.sub_key_walk.proofs.Traces.{all-append, eventOf, trace-imp}
 

@@ -1,6 +1,6 @@
 -- What the private functions promise: the loops over the entries of a leaf list, the walk that measures and the walk that fills. Of use
 -- inside this crate only.
-use Prim.Native.Nat.{ℕ, _+_, _*_, _≤_, _<_}
+use Prim.Native.Nat.{ℕ, _+_, _*_, _≤_}
 use mathlib.Core.Path.{_≡_}
 use mathlib.Core.List.{List}
 use mathlib.Core.Bool.{Bool, true}

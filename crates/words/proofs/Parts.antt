@@ -10,7 +10,7 @@ use lib.Seq.{take-nil, take-all, getD-take, getD-drop}
 use denote.Ref.{RefT, ptr, now}
 use denote.Slice.{sliceVal}
 use borrow.Author.Tests.{eq-eqb, ne-eqb}
-use Rattle.words.specs.Parts.{Part, startOf, Lies}
+use Rattle.words.specs.Parts.{Part, Lies}
 use Rattle.words.specs.Words.{byteAt}
 use Rattle.words.specs.Paper.{handed, handedAt}
 

@@ -18,7 +18,8 @@ join2-requires c κs = search needs
 
 returns : tie.Need-returns
 returns c =
-    let a = c .before .before .before .before .args in c .join2 .ensures ∙ sym (little-2 (a .image .now) (a .at))
+    let a = c .before .before .before .before .args in
+    c .join2 .ensures ∙ sym (little-2 (a .image .now) (a .at))
 
 pub half-spec : {M : Type 1} → statement M
 half-spec =

@@ -6,7 +6,6 @@ use Rattle.sub_key_list.specs.Lists.{listPaper}
 use Rattle.sub_key_list.specs.declared.SubKeyList.{SubKeyList}
 use Rattle.sub_key_walk.specs.Trace.{trace, ordinary}
 use Rattle.sub_key_walk.specs.Judge.{counts}
-use Rattle.sub_key_walk.specs.Walk.{Bounded}
 use Rattle.sub_key_walk.proofs.Traces.{entry-of-index}
 use Rattle.sub_key_walk.proofs.Walks.{Indexing, indexing-start, indexing-step, walk-deep, walk-spent, Reached, walk-bad, walk-leaf, index-bounded, walk-index, walk-index-refused}
 use Prim.Native.Nat.{ℕ, _<_}

@@ -6,23 +6,34 @@ use Rattle.sub_key_walk.proofs.dropped_in.Tie as tie
 
 add-pos : tie.Need-add-pos
 add-pos c =
-    let a = c .before .args in let x = leaf-stands (a .image .now) (a .position) _ _ _ (c .before .pre) in let h = x .header in search needs
+    let a = c .before .args in
+    let x = leaf-stands (a .image .now) (a .position) _ _ _ (c .before .pre) in
+    let h = x .header in
+    search needs
 
 dropped-of-requires : tie.Need-dropped-of-requires
 dropped-of-requires c κs =
-    let a = c .before .before .args in let x = leaf-stands (a .image .now) (a .position) _ _ _ (c .before .before .pre) in dropped-asks (a .image .now) (a .base) (a .position) (a .leaf .«entry_size») (a .leaf .count) x 4 (c .if1 .taken)
+    let a = c .before .before .args in
+    let x = leaf-stands (a .image .now) (a .position) _ _ _ (c .before .before .pre) in
+    dropped-asks (a .image .now) (a .base) (a .position) (a .leaf .«entry_size») (a .leaf .count) x 4 (c .if1 .taken)
 
 dropped-of-requires-2 : tie.Need-dropped-of-requires-2
 dropped-of-requires-2 c κs =
-    let a = c .before .before .args in let x = leaf-stands (a .image .now) (a .position) _ _ _ (c .before .before .pre) in dropped-asks (a .image .now) (a .base) (a .position) (a .leaf .«entry_size») (a .leaf .count) x 8 (x .other-size (c .if1 .left))
+    let a = c .before .before .args in
+    let x = leaf-stands (a .image .now) (a .position) _ _ _ (c .before .before .pre) in
+    dropped-asks (a .image .now) (a .base) (a .position) (a .leaf .«entry_size») (a .leaf .count) x 8 (x .other-size (c .if1 .left))
 
 returns : tie.Need-returns
 returns c =
-    let a = c .before .before .before .args in let x = leaf-stands (a .image .now) (a .position) _ _ _ (c .before .before .before .pre) in dropped-told (a .image .now) (a .base) (a .position) (a .leaf .«entry_size») (a .leaf .count) x 4 (c .before .if1 .taken) (c .dropped-of .ensures)
+    let a = c .before .before .before .args in
+    let x = leaf-stands (a .image .now) (a .position) _ _ _ (c .before .before .before .pre) in
+    dropped-told (a .image .now) (a .base) (a .position) (a .leaf .«entry_size») (a .leaf .count) x 4 (c .before .if1 .taken) (c .dropped-of .ensures)
 
 returns-2 : tie.Need-returns-2
 returns-2 c =
-    let a = c .before .before .before .args in let x = leaf-stands (a .image .now) (a .position) _ _ _ (c .before .before .before .pre) in dropped-told (a .image .now) (a .base) (a .position) (a .leaf .«entry_size») (a .leaf .count) x 8 (x .other-size (c .before .if1 .left)) (c .dropped-of2 .ensures)
+    let a = c .before .before .before .args in
+    let x = leaf-stands (a .image .now) (a .position) _ _ _ (c .before .before .before .pre) in
+    dropped-told (a .image .now) (a .base) (a .position) (a .leaf .«entry_size») (a .leaf .count) x 8 (x .other-size (c .before .if1 .left)) (c .dropped-of2 .ensures)
 
 pub dropped-in-spec : {M : Type 1} → statement M
 dropped-in-spec =

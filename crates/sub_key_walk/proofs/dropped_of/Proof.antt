@@ -1,7 +1,6 @@
 use Prim.Native.Nat.{_+_}
 use Rattle.sub_key_list.proofs.Leaves.{keep-or-drop}
 use Prim.Native.Nat.{_-_}
-use native.Mathlib.Omega.{arith}
 use Rattle.sub_key_walk.proofs.Entries.{entry-there, entry-next, Counting, counting-start, counting-step, counting-end}
 use borrow.Author.Needs.{needs}
 use Rattle.sub_key_walk.proofs.dropped_of.Statement.{statement}
@@ -15,21 +14,29 @@ abbrev μ-loop : tie.MeasureT-loop
 
 loop-holds : tie.Need-loop-holds Inv-loop μ-loop
 loop-holds c =
-    let a = c .before .args in counting-start (a .image .now) (a .base) (a .size) (a .count) (a .pos) (c .before .pre)
+    let a = c .before .args in
+    counting-start (a .image .now) (a .base) (a .size) (a .count) (a .pos) (c .before .pre)
 
 word-requires : tie.Need-word-requires Inv-loop μ-loop
 word-requires c κs =
-    let a = c .before .before .before .args in entry-there (a .size) (a .count) (c .before .loop .i) (c .loop-test .taken) (a .image .now) (c .before .loop .at) (c .before .before .before .pre .word) (c .before .loop .inv .inside)
+    let a = c .before .before .before .args in
+    entry-there (a .size) (a .count) (c .before .loop .i) (c .loop-test .taken) (a .image .now) (c .before .loop .at) (c .before .before .before .pre .word) (c .before .loop .inv .inside)
 
 drop-one-requires : tie.Need-drop-one-requires Inv-loop μ-loop
 drop-one-requires c κs = search needs
 
 add-dropped : tie.Need-add-dropped Inv-loop μ-loop
-add-dropped c = let a = c .before .before .before .before .before .args in let k = keep-or-drop (c .before .word .result + a .base) in let e = c .drop-one .ensures in search needs
+add-dropped c =
+    let a = c .before .before .before .before .before .args in
+    let k = keep-or-drop (c .before .word .result + a .base) in
+    let e = c .drop-one .ensures in
+    search needs
 
 add-at : tie.Need-add-at Inv-loop μ-loop
 add-at c =
-    let a = c .before .before .before .before .before .args in let l = entry-next (a .size) (a .count) (c .before .before .before .loop .i) (c .before .before .loop-test .taken) (a .image .now) (c .before .before .before .loop .at) (c .before .before .before .loop .inv .inside) in search needs
+    let a = c .before .before .before .before .before .args in
+    let l = entry-next (a .size) (a .count) (c .before .before .before .loop .i) (c .before .before .loop-test .taken) (a .image .now) (c .before .before .before .loop .at) (c .before .before .before .loop .inv .inside) in
+    search needs
 
 add-i : tie.Need-add-i Inv-loop μ-loop
 add-i c = search needs
@@ -39,11 +46,13 @@ loop-less c = search needs
 
 loop-again : tie.Need-loop-again Inv-loop μ-loop
 loop-again c =
-    let a = c .before .before .before .before .before .args in counting-step (a .image .now) (a .base) (a .size) (a .count) (a .pos) (c .before .before .before .before .before .pre) _ _ _ (c .before .before .before .loop .inv) (c .before .before .loop-test .taken) (c .before .word .ensures) (c .drop-one .ensures)
+    let a = c .before .before .before .before .before .args in
+    counting-step (a .image .now) (a .base) (a .size) (a .count) (a .pos) (c .before .before .before .before .before .pre) _ _ _ (c .before .before .before .loop .inv) (c .before .before .loop-test .taken) (c .before .word .ensures) (c .drop-one .ensures)
 
 returns : tie.Need-returns Inv-loop μ-loop
 returns c =
-    let a = c .before .before .before .args in counting-end (a .image .now) (a .base) (a .size) (a .count) (a .pos) (c .before .before .before .pre) _ _ _ (c .before .loop .inv) (c .loop-test .left)
+    let a = c .before .before .before .args in
+    counting-end (a .image .now) (a .base) (a .size) (a .count) (a .pos) (c .before .before .before .pre) _ _ _ (c .before .loop .inv) (c .loop-test .left)
 
 pub dropped-of-spec : {M : Type 1} → statement M
 dropped-of-spec =

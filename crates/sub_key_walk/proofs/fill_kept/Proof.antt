@@ -1,5 +1,4 @@
 use Prim.Native.Nat.{_-_}
-use native.Mathlib.Omega.{arith}
 use Rattle.sub_key_walk.proofs.Entries.{entry-there, entry-next, Filling, filling-start, filling-room, filling-step, filling-end}
 use borrow.Author.Needs.{needs}
 use Rattle.sub_key_walk.proofs.fill_kept.Statement.{statement}
@@ -13,19 +12,24 @@ abbrev μ-loop : tie.MeasureT-loop
 
 loop-holds : tie.Need-loop-holds Inv-loop μ-loop
 loop-holds c =
-    let a = c .before .before .args in filling-start (a .image .now) (a .base) (a .size) (a .count) (a .pos) (a .out .now) (a .place) (c .before .before .pre .0) (c .before .before .pre .1)
+    let a = c .before .before .args in
+    filling-start (a .image .now) (a .base) (a .size) (a .count) (a .pos) (a .out .now) (a .place) (c .before .before .pre .0) (c .before .before .pre .1)
 
 word-requires : tie.Need-word-requires Inv-loop μ-loop
 word-requires c κs =
-    let a = c .before .before .before .before .args in entry-there (a .size) (a .count) (c .before .loop .i) (c .loop-test .taken) (a .image .now) (c .before .loop .at) (c .before .before .before .before .pre .0 .word) (c .before .loop .inv .inside)
+    let a = c .before .before .before .before .args in
+    entry-there (a .size) (a .count) (c .before .loop .i) (c .loop-test .taken) (a .image .now) (c .before .loop .at) (c .before .before .before .before .pre .0 .word) (c .before .loop .inv .inside)
 
 put-kept-requires : tie.Need-put-kept-requires Inv-loop μ-loop
 put-kept-requires c κs =
-    let a = c .before .before .before .before .before .before .args in filling-room (a .image .now) (a .base) (a .size) (a .count) (a .pos) (a .out .now) (a .place) _ _ _ _ (c .before .before .before .loop .inv) (c .before .before .loop-test .taken) (c .before .word .ensures)
+    let a = c .before .before .before .before .before .before .args in
+    filling-room (a .image .now) (a .base) (a .size) (a .count) (a .pos) (a .out .now) (a .place) _ _ _ _ (c .before .before .before .loop .inv) (c .before .before .loop-test .taken) (c .before .word .ensures)
 
 add-at : tie.Need-add-at Inv-loop μ-loop
 add-at c =
-    let a = c .before .before .before .before .before .before .before .before .before .args in let l = entry-next (a .size) (a .count) (c .before .before .before .before .before .before .loop .i) (c .before .before .before .before .before .loop-test .taken) (a .image .now) (c .before .before .before .before .before .before .loop .at) (c .before .before .before .before .before .before .loop .inv .inside) in search needs
+    let a = c .before .before .before .before .before .before .before .before .before .args in
+    let l = entry-next (a .size) (a .count) (c .before .before .before .before .before .before .loop .i) (c .before .before .before .before .before .loop-test .taken) (a .image .now) (c .before .before .before .before .before .before .loop .at) (c .before .before .before .before .before .before .loop .inv .inside) in
+    search needs
 
 add-i : tie.Need-add-i Inv-loop μ-loop
 add-i c = search needs
@@ -35,14 +39,16 @@ loop-less c = search needs
 
 loop-again : tie.Need-loop-again Inv-loop μ-loop
 loop-again c =
-    let a = c .before .before .before .before .before .before .before .before .before .args in filling-step (a .image .now) (a .base) (a .size) (a .count) (a .pos) (a .out .now) (a .place) _ _ _ _ (c .before .before .before .before .before .before .loop .inv) (c .before .before .before .before .before .loop-test .taken) (c .before .before .before .before .word .ensures) (c .before .before .put-kept .ensures)
+    let a = c .before .before .before .before .before .before .before .before .before .args in
+    filling-step (a .image .now) (a .base) (a .size) (a .count) (a .pos) (a .out .now) (a .place) _ _ _ _ (c .before .before .before .before .before .before .loop .inv) (c .before .before .before .before .before .loop-test .taken) (c .before .before .before .before .word .ensures) (c .before .before .put-kept .ensures)
 
 same-length : tie.Need-same-length Inv-loop μ-loop
 same-length c = c .before .loop .inv .long
 
 returns : tie.Need-returns Inv-loop μ-loop
 returns c =
-    let a = c .before .before .before .before .args in filling-end (a .image .now) (a .base) (a .size) (a .count) (a .pos) (a .out .now) (a .place) _ _ _ _ (c .before .loop .inv) (c .loop-test .left)
+    let a = c .before .before .before .before .args in
+    filling-end (a .image .now) (a .base) (a .size) (a .count) (a .pos) (a .out .now) (a .place) _ _ _ _ (c .before .loop .inv) (c .loop-test .left)
 
 pub fill-kept-spec : {M : Type 1} → statement M
 fill-kept-spec =

@@ -1,11 +1,7 @@
-use mathlib.Core.Path.{_≡_, ap}
-use mathlib.Core.List.{List, []}
-use Prim.Native.Nat.{_-_, _+_}
-use lib.ListN.{length}
-use Rattle.sub_key_list.specs.Leaves.{keep, leafDropped}
-use Rattle.sub_key_list.proofs.Leaves.{keep-kept}
-use native.Mathlib.Omega.{arith}
-use Rattle.sub_key_walk.proofs.Entries.{entry-there, entry-next, Filling, filling-start, filling-room, filling-step, filling-end, put-kept, whole-first, whole-rest, whole-start}
+use mathlib.Core.Path.{_≡_}
+use Prim.Native.Nat.{_-_}
+use Rattle.sub_key_list.specs.Leaves.{leafDropped}
+use Rattle.sub_key_walk.proofs.Entries.{entry-there, entry-next, Filling, filling-start, filling-end, whole-next, whole-start}
 use borrow.Author.Needs.{needs}
 use Rattle.sub_key_walk.proofs.fill_whole.Statement.{statement}
 use Rattle.sub_key_walk.proofs.fill_whole.Tie as tie
@@ -19,30 +15,43 @@ abbrev μ-loop : tie.MeasureT-loop
 
 loop-holds : tie.Need-loop-holds Inv-loop μ-loop
 loop-holds c =
-    let a = c .before .before .args in (filling-start (a .image .now) (a .base) (a .size) (a .count) (a .pos) (a .out .now) (a .place) (c .before .before .pre .0) (c .before .before .pre .1 .1), whole-start (a .image .now) (a .base) (a .size) (a .count) (a .pos) (c .before .before .pre .1 .0))
+    let a = c .before .before .args in
+    (filling-start (a .image .now) (a .base) (a .size) (a .count) (a .pos) (a .out .now) (a .place) (c .before .before .pre .0) (c .before .before .pre .1 .1), whole-start (a .image .now) (a .base) (a .size) (a .count) (a .pos) (c .before .before .pre .1 .0))
 
 word-requires : tie.Need-word-requires Inv-loop μ-loop
 word-requires c κs =
-    let a = c .before .before .before .before .args in entry-there (a .size) (a .count) (c .before .loop .i) (c .loop-test .taken) (a .image .now) (c .before .loop .at) (c .before .before .before .before .pre .0 .word) (c .before .loop .inv .0 .inside)
+    let a = c .before .before .before .before .args in
+    entry-there (a .size) (a .count) (c .before .loop .i) (c .loop-test .taken) (a .image .now) (c .before .loop .at) (c .before .before .before .before .pre .0 .word) (c .before .loop .inv .0 .inside)
 
 add-out : tie.Need-add-out Inv-loop μ-loop
 add-out c =
-    let a = c .before .before .before .before .before .args in let k = whole-first (a .image .now) (a .base) (a .size) (a .count) (c .before .before .loop .at) (c .before .before .loop .i) (c .before .loop-test .taken) (c .before .before .loop .inv .1) (c .word .ensures) in search needs
+    let a = c .before .before .before .before .before .args in
+    let l = c .before .before .loop in
+    let w = whole-next (a .image .now) (a .base) (a .size) (a .count) (a .pos) (a .out .now) (a .place) _ _ _ _ _ (l .inv .0) (l .inv .1) (c .before .loop-test .taken) (c .word .ensures) in
+    search needs
 
 mul-out : tie.Need-mul-out Inv-loop μ-loop
 mul-out c = search needs
 
 slice-write-out : tie.Need-slice-write-out Inv-loop μ-loop
 slice-write-out c =
-    let a = c .before .before .before .before .before .args in let k = whole-first (a .image .now) (a .base) (a .size) (a .count) (c .before .before .loop .at) (c .before .before .loop .i) (c .before .loop-test .taken) (c .before .before .loop .inv .1) (c .word .ensures) in let e : length (keep (c .word .result + a .base) []) ≡ 1 = ap length (keep-kept (c .word .result + a .base) k) in let r = filling-room (a .image .now) (a .base) (a .size) (a .count) (a .pos) (a .out .now) (a .place) _ _ _ _ (c .before .before .loop .inv .0) (c .before .loop-test .taken) (c .word .ensures) in search needs
+    let a = c .before .before .before .before .before .args in
+    let l = c .before .before .loop in
+    let w = whole-next (a .image .now) (a .base) (a .size) (a .count) (a .pos) (a .out .now) (a .place) _ _ _ _ _ (l .inv .0) (l .inv .1) (c .before .loop-test .taken) (c .word .ensures) in
+    search needs
 
 add-at : tie.Need-add-at Inv-loop μ-loop
 add-at c =
-    let a = c .before .before .before .before .before .args in let l = entry-next (a .size) (a .count) (c .before .before .loop .i) (c .before .loop-test .taken) (a .image .now) (c .before .before .loop .at) (c .before .before .loop .inv .0 .inside) in search needs
+    let a = c .before .before .before .before .before .args in
+    let l = entry-next (a .size) (a .count) (c .before .before .loop .i) (c .before .loop-test .taken) (a .image .now) (c .before .before .loop .at) (c .before .before .loop .inv .0 .inside) in
+    search needs
 
 add-to : tie.Need-add-to Inv-loop μ-loop
 add-to c =
-    let a = c .before .before .before .before .before .args in let k = whole-first (a .image .now) (a .base) (a .size) (a .count) (c .before .before .loop .at) (c .before .before .loop .i) (c .before .loop-test .taken) (c .before .before .loop .inv .1) (c .word .ensures) in let e : length (keep (c .word .result + a .base) []) ≡ 1 = ap length (keep-kept (c .word .result + a .base) k) in let r = filling-room (a .image .now) (a .base) (a .size) (a .count) (a .pos) (a .out .now) (a .place) _ _ _ _ (c .before .before .loop .inv .0) (c .before .loop-test .taken) (c .word .ensures) in search needs
+    let a = c .before .before .before .before .before .args in
+    let l = c .before .before .loop in
+    let w = whole-next (a .image .now) (a .base) (a .size) (a .count) (a .pos) (a .out .now) (a .place) _ _ _ _ _ (l .inv .0) (l .inv .1) (c .before .loop-test .taken) (c .word .ensures) in
+    search needs
 
 add-i : tie.Need-add-i Inv-loop μ-loop
 add-i c = search needs
@@ -52,14 +61,18 @@ loop-less c = search needs
 
 loop-again : tie.Need-loop-again Inv-loop μ-loop
 loop-again c =
-    let a = c .before .before .before .before .before .args in let k = whole-first (a .image .now) (a .base) (a .size) (a .count) (c .before .before .loop .at) (c .before .before .loop .i) (c .before .loop-test .taken) (c .before .before .loop .inv .1) (c .word .ensures) in (filling-step (a .image .now) (a .base) (a .size) (a .count) (a .pos) (a .out .now) (a .place) _ _ _ _ (c .before .before .loop .inv .0) (c .before .loop-test .taken) (c .word .ensures) (put-kept (c .word .result + a .base) (c .before .before .loop .to) (c .before .before .loop .out) k), whole-rest (a .image .now) (a .base) (a .size) (a .count) (c .before .before .loop .at) (c .before .before .loop .i) (c .before .loop-test .taken) (c .before .before .loop .inv .1))
+    let a = c .before .before .before .before .before .args in
+    let l = c .before .before .loop in
+    let w = whole-next (a .image .now) (a .base) (a .size) (a .count) (a .pos) (a .out .now) (a .place) _ _ _ _ _ (l .inv .0) (l .inv .1) (c .before .loop-test .taken) (c .word .ensures) in
+    (w .next, w .rest)
 
 same-length : tie.Need-same-length Inv-loop μ-loop
 same-length c = c .before .loop .inv .0 .long
 
 returns : tie.Need-returns Inv-loop μ-loop
 returns c =
-    let a = c .before .before .before .before .args in filling-end (a .image .now) (a .base) (a .size) (a .count) (a .pos) (a .out .now) (a .place) _ _ _ _ (c .before .loop .inv .0) (c .loop-test .left)
+    let a = c .before .before .before .before .args in
+    filling-end (a .image .now) (a .base) (a .size) (a .count) (a .pos) (a .out .now) (a .place) _ _ _ _ (c .before .loop .inv .0) (c .loop-test .left)
 
 pub fill-whole-spec : {M : Type 1} → statement M
 fill-whole-spec =

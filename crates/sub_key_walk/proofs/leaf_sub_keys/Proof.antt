@@ -35,26 +35,32 @@ full-requires c κs = search needs
 
 returns : tie.Need-returns
 returns c =
-    let a = c .before .before .before .before .before .before .before .before .before .args in leaf-full (a .image .now) (a .base) (a .position) (a .out .now) (ap listPaper (sym (c .before .before .before .before .leaf .given .1)) ∙ c .before .before .before .before .before .before .read-list .ensures) (c .before .before .read-leaf .ensures) (c .before .if1 .taken) (c .full .ensures)
+    let a = c .before .before .before .before .before .before .before .before .before .args in
+    leaf-full (a .image .now) (a .base) (a .position) (a .out .now) (ap listPaper (sym (c .before .before .before .before .leaf .given .1)) ∙ c .before .before .before .before .before .before .read-list .ensures) (c .before .before .read-leaf .ensures) (c .before .if1 .taken) (c .full .ensures)
 
 fill-leaf-requires : tie.Need-fill-leaf-requires
 fill-leaf-requires c κs =
-    let a = c .before .before .before .before .before .before .before .before .before .args in let e = ap listPaper (sym (c .before .before .before .before .leaf .given .1)) ∙ c .before .before .before .before .before .before .read-list .ensures in (sym e, (leaf-whole (a .image .now) (a .base) (a .position) (a .out .now) e (c .before .before .read-leaf .ensures) (c .before .if1 .left) refl, leaf-roomy (a .image .now) (a .base) (a .position) (a .out .now) e (c .before .before .read-leaf .ensures) (c .before .if1 .left)))
+    let a = c .before .before .before .before .before .before .before .before .before .args in
+    let e = ap listPaper (sym (c .before .before .before .before .leaf .given .1)) ∙ c .before .before .before .before .before .before .read-list .ensures in
+    (sym e, (leaf-whole (a .image .now) (a .base) (a .position) (a .out .now) e (c .before .before .read-leaf .ensures) (c .before .if1 .left) refl, leaf-roomy (a .image .now) (a .base) (a .position) (a .out .now) e (c .before .before .read-leaf .ensures) (c .before .if1 .left)))
 
 returns-2 : tie.Need-returns-2
 returns-2 c =
-    let a = c .before .before .before .before .before .before .before .args in leaf-refused (a .image .now) (a .base) (a .position) (a .out .now) (ap listPaper (sym (c .before .before .fault .given .1)) ∙ c .before .before .before .before .read-list .ensures) (c .refusal .ensures)
+    let a = c .before .before .before .before .before .before .before .args in
+    leaf-refused (a .image .now) (a .base) (a .position) (a .out .now) (ap listPaper (sym (c .before .before .fault .given .1)) ∙ c .before .before .before .before .read-list .ensures) (c .refusal .ensures)
 
 returns-3 : tie.Need-returns-3
 returns-3 c =
-    let a = c .before .before .before .before .before .before .before .args in leaf-index (a .image .now) (a .base) (a .position) (a .out .now) (ap listPaper (sym (c .before .before .index .given .1)) ∙ c .before .before .before .before .read-list .ensures) (c .refusal2 .ensures)
+    let a = c .before .before .before .before .before .before .before .args in
+    leaf-index (a .image .now) (a .base) (a .position) (a .out .now) (ap listPaper (sym (c .before .before .index .given .1)) ∙ c .before .before .before .before .read-list .ensures) (c .refusal2 .ensures)
 
 same-length : tie.Need-same-length
 same-length c = search needs
 
 returns-4 : tie.Need-returns-4
 returns-4 c =
-    let a = c .before .before .before .before .before .before .before .before .before .before .before .before .args in leaf-filled (a .image .now) (a .base) (a .position) (a .out .now) (ap listPaper (sym (c .before .before .before .before .before .before .before .leaf .given .1)) ∙ c .before .before .before .before .before .before .before .before .before .read-list .ensures) (c .before .before .before .before .before .read-leaf .ensures) (c .before .before .before .before .if1 .left) (c .before .before .fill-leaf .ensures)
+    let a = c .before .before .before .before .before .before .before .before .before .before .before .before .args in
+    leaf-filled (a .image .now) (a .base) (a .position) (a .out .now) (ap listPaper (sym (c .before .before .before .before .before .before .before .leaf .given .1)) ∙ c .before .before .before .before .before .before .before .before .before .read-list .ensures) (c .before .before .before .before .before .read-leaf .ensures) (c .before .before .before .before .if1 .left) (c .before .before .fill-leaf .ensures)
 
 pub leaf-sub-keys-spec : {M : Type 1} → statement M
 leaf-sub-keys-spec =

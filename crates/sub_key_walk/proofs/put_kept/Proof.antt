@@ -1,6 +1,6 @@
 use mathlib.Core.Path.{_≡_, ap}
-use mathlib.Core.List.{List, []}
-use Prim.Native.Nat.{_+_, _<_}
+use mathlib.Core.List.{[]}
+use Prim.Native.Nat.{_+_}
 use native.Mathlib.Omega.{arith}
 use lib.ListN.{length}
 use Rattle.sub_key_list.specs.Leaves.{keep}
@@ -21,7 +21,9 @@ mul-out c = search needs
 
 slice-write-out : tie.Need-slice-write-out
 slice-write-out c =
-    let a = c .before .args in let e : length (keep (a .v + a .base) []) ≡ 1 = ap length (keep-kept (a .v + a .base) (omega arith)) in search needs
+    let a = c .before .args in
+    let e : length (keep (a .v + a .base) []) ≡ 1 = ap length (keep-kept (a .v + a .base) (omega arith)) in
+    search needs
 
 add-result : tie.Need-add-result
 add-result c = search needs

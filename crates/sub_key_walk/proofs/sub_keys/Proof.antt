@@ -21,26 +21,31 @@ full-requires c κs = search needs
 
 returns : tie.Need-returns
 returns c =
-    let a = c .before .before .before .before .before .before .before .before .args in walk-full (a .image .now) (a .base) (a .count) (a .list) (a .budget) (a .out .now) _ (c .before .before .before .before .before .sub-key-counts .ensures) (c .before .before .before .whole .given .1) (c .before .if1 .taken) (c .full .ensures)
+    let a = c .before .before .before .before .before .before .before .before .args in
+    walk-full (a .image .now) (a .base) (a .count) (a .list) (a .budget) (a .out .now) _ (c .before .before .before .before .before .sub-key-counts .ensures) (c .before .before .before .whole .given .1) (c .before .if1 .taken) (c .full .ensures)
 
 fill-requires : tie.Need-fill-requires
 fill-requires c κs =
-    let a = c .before .before .before .before .before .before .before .before .before .args in walk-roomy (a .image .now) (a .base) (a .count) (a .list) (a .budget) (a .out .now) _ (c .before .before .before .before .before .before .sub-key-counts .ensures) (c .before .before .before .before .whole .given .1) (c .before .before .if1 .left) (c .before .if2 .taken) refl
+    let a = c .before .before .before .before .before .before .before .before .before .args in
+    walk-roomy (a .image .now) (a .base) (a .count) (a .list) (a .budget) (a .out .now) _ (c .before .before .before .before .before .before .sub-key-counts .ensures) (c .before .before .before .before .whole .given .1) (c .before .before .if1 .left) (c .before .if2 .taken) refl
 
 returns-2 : tie.Need-returns-2
 returns-2 c =
-    let a = c .before .before .before .before .before .before .args in walk-refused (a .image .now) (a .base) (a .count) (a .list) (a .budget) (a .out .now) _ (c .before .before .before .sub-key-counts .ensures) (c .before .fault .given .1)
+    let a = c .before .before .before .before .before .before .args in
+    walk-refused (a .image .now) (a .base) (a .count) (a .list) (a .budget) (a .out .now) _ (c .before .before .before .sub-key-counts .ensures) (c .before .fault .given .1)
 
 same-length : tie.Need-same-length
 same-length c = search needs
 
 returns-3 : tie.Need-returns-3
 returns-3 c =
-    let a = c .before .before .before .before .before .before .before .before .before .before .before .before .args in walk-filled (a .image .now) (a .base) (a .count) (a .list) (a .budget) (a .out .now) _ (c .before .before .before .before .before .before .before .before .before .sub-key-counts .ensures) (c .before .before .before .before .before .before .before .whole .given .1) (c .before .before .before .before .before .if1 .left) (c .before .before .before .before .if2 .taken) (c .before .before .fill .ensures)
+    let a = c .before .before .before .before .before .before .before .before .before .before .before .before .args in
+    walk-filled (a .image .now) (a .base) (a .count) (a .list) (a .budget) (a .out .now) _ (c .before .before .before .before .before .before .before .before .before .sub-key-counts .ensures) (c .before .before .before .before .before .before .before .whole .given .1) (c .before .before .before .before .before .if1 .left) (c .before .before .before .before .if2 .taken) (c .before .before .fill .ensures)
 
 returns-4 : tie.Need-returns-4
 returns-4 c =
-    let a = c .before .before .before .before .before .before .before .before .args in walk-empty (a .image .now) (a .base) (a .count) (a .list) (a .budget) (a .out .now) _ (c .before .before .before .before .before .sub-key-counts .ensures) (c .before .before .before .whole .given .1) (c .before .if1 .left) (c .if2 .left)
+    let a = c .before .before .before .before .before .before .before .before .args in
+    walk-empty (a .image .now) (a .base) (a .count) (a .list) (a .budget) (a .out .now) _ (c .before .before .before .before .before .sub-key-counts .ensures) (c .before .before .before .whole .given .1) (c .before .if1 .left) (c .if2 .left)
 
 pub sub-keys-spec : {M : Type 1} → statement M
 sub-keys-spec =

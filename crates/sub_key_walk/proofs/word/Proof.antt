@@ -30,7 +30,8 @@ join4-requires c κs = search needs
 
 returns : tie.Need-returns
 returns c =
-    let a = c .before .before .before .before .before .before .args in c .join4 .ensures ∙ sym (little-4 (a .image .now) (a .at))
+    let a = c .before .before .before .before .before .before .args in
+    c .join4 .ensures ∙ sym (little-4 (a .image .now) (a .at))
 
 pub word-spec : {M : Type 1} → statement M
 word-spec =

@@ -4,9 +4,9 @@ use mathlib.Core.List.{List, [], _∷_}
 use Prim.Native.Nat.{ℕ}
 use native.Mathlib.Omega.{arith}
 use lib.IntN.{pos}
-use Rattle.words.specs.Paper.{success, refused, by, noRoom}
+use Rattle.words.specs.Paper.{success, refused, by}
 use Rattle.words.specs.Refusals.{NO-LIST, OUTSIDE}
-use Rattle.words.specs.Buffers.{inRoom}
+use Rattle.words.specs.Buffers.{needing, inRoom}
 use Rattle.words.proofs.Buffers.{room-fits}
 use Rattle.cell_key_node.specs.ValueList.{placeOf, valueListOf}
 
@@ -25,7 +25,7 @@ pub examples : Examples
 unfolding valueListOf placeOf inRoom
 examples =
     record {
-      none = λ image base room. room-fits (λ n. noRoom 0 n 0) room 0 (omega arith);
+      none = λ image base room. room-fits needing room 0 (omega arith);
       no-offset = λ image base room. refl;
       at-end = λ a b c d e f g h room. refl;
       past-end = λ a b c d e f g h room. refl;

@@ -2,25 +2,15 @@
 use mathlib.Core.Path.{_≡_, refl, sym, ap}
 use Prim.Native.Nat.{ℕ}
 use native.Mathlib.Omega.{arith}
-use Rattle.words.proofs.Papers.{success-refused, refused-success, same-success, same-told, same-refusal}
-use Rattle.cell_key_node.specs.Records.{recordPaper}
+use Rattle.words.proofs.Papers.{success-refused, refused-success, same-success, same-told, same-refusal, same-room-refusal}
 use Rattle.cell_key_node.specs.Key.{keyPaper}
-use Rattle.cell_key_node.specs.ValueList.{nowhere, at, placePaper, toldOfList, valueListPaper}
-use Rattle.cell_key_node.specs.declared.RecordAnswer.{RecordAnswer}
-use Rattle.cell_key_node.specs.declared.RecordAnswer.the-variants.{Whole, Refused as NoRecord}
+use Rattle.cell_key_node.specs.ValueList.{nowhere, at, placePaper, valueListPaper}
 use Rattle.cell_key_node.specs.declared.KeyAnswer.{KeyAnswer}
 use Rattle.cell_key_node.specs.declared.KeyAnswer.the-variants.{Key, Refused as NoKey}
 use Rattle.cell_key_node.specs.declared.PlaceAnswer.{PlaceAnswer}
 use Rattle.cell_key_node.specs.declared.PlaceAnswer.the-variants.{Nothing, Place, Refused as NoPlace}
-use Rattle.cell_key_node.specs.declared.ListRefusal.{ListRefusal}
 use Rattle.cell_key_node.specs.declared.ValueListAnswer.{ValueListAnswer}
 use Rattle.cell_key_node.specs.declared.ValueListAnswer.the-variants.{Listed, Refused as NoList}
-
-pub record-injective : (r t : RecordAnswer) → recordPaper r ≡ recordPaper t → r ≡ t
-record-injective Whole Whole e = refl
-record-injective Whole (NoRecord f) e = absurd (success-refused e)
-record-injective (NoRecord f) Whole e = absurd (refused-success e)
-record-injective (NoRecord f) (NoRecord g) e = ap NoRecord (same-refusal (same-told e))
 
 pub key-injective : (r t : KeyAnswer) → keyPaper r ≡ keyPaper t → r ≡ t
 key-injective (Key k) (Key l) e = ap Key (same-success e)
@@ -45,11 +35,8 @@ place-injective (NoPlace f) Nothing e = absurd (refused-success e)
 place-injective (NoPlace f) (Place q) e = absurd (refused-success e)
 place-injective (NoPlace f) (NoPlace g) e = ap NoPlace (same-refusal (same-told e))
 
-same-list-refusal : {f g : ListRefusal} → toldOfList f ≡ toldOfList g → f ≡ g
-same-list-refusal e = λ i. record { number = e i .number; position = e i .position; places = e i .places }
-
 pub list-injective : (r t : ValueListAnswer) → valueListPaper r ≡ valueListPaper t → r ≡ t
 list-injective (Listed n) (Listed m) e = ap Listed (same-success e)
 list-injective (Listed n) (NoList f) e = absurd (success-refused e)
 list-injective (NoList f) (Listed n) e = absurd (refused-success e)
-list-injective (NoList f) (NoList g) e = ap NoList (same-list-refusal (same-told e))
+list-injective (NoList f) (NoList g) e = ap NoList (same-room-refusal (same-told e))

@@ -6,33 +6,33 @@ use Prim.{tt}
 use Prim.Native.Nat.{ℕ}
 use native.Mathlib.Decide.{ℕ-discrete}
 use Rattle.words.specs.declared.Refusal.{Refusal}
-use Rattle.words.specs.Paper.{refused, told, checked}
+use Rattle.words.specs.declared.Verdict.{Verdict}
+use Rattle.words.specs.declared.Verdict.the-variants.{Whole, Refused}
+use Rattle.words.specs.Paper.{refused, told, verdictPaper, checked}
 use Rattle.words.proofs.Papers.{success-refused, refused-success, same-told, checked-good, checked-bad}
-use Rattle.cell_key_node.specs.Records.{faultAt, recordAt, recordPaper}
-use Rattle.cell_key_node.specs.declared.RecordAnswer.{RecordAnswer}
-use Rattle.cell_key_node.specs.declared.RecordAnswer.the-variants.{Whole, Refused}
+use Rattle.cell_key_node.specs.Records.{faultAt, recordAt}
 
 module _ (image : List ℕ) (position fixed sign nameAt : ℕ) where
   abbrev fault : ℕ
   fault = faultAt image position fixed sign nameAt
 
-  pub passed : {r : RecordAnswer} → recordPaper r ≡ recordAt image position fixed sign nameAt → r ≡ Whole → fault ≡ 0
+  pub passed : {r : Verdict} → verdictPaper r ≡ recordAt image position fixed sign nameAt → r ≡ Whole → fault ≡ 0
   unfolding recordAt
   passed e w = go (ℕ-discrete fault 0)
     where
       go : Dec (fault ≡ 0) → fault ≡ 0
       go (yes z) = z
-      go (no z) = absurd (success-refused (sym (ap recordPaper w) ∙ e ∙ checked-bad fault position tt z))
+      go (no z) = absurd (success-refused (sym (ap verdictPaper w) ∙ e ∙ checked-bad fault position tt z))
 
-  pub failed : {r : RecordAnswer} {f : Refusal} → recordPaper r ≡ recordAt image position fixed sign nameAt → r ≡ Refused f → fault ≡ 0 → ⊥
+  pub failed : {r : Verdict} {f : Refusal} → verdictPaper r ≡ recordAt image position fixed sign nameAt → r ≡ Refused f → fault ≡ 0 → ⊥
   unfolding recordAt
-  failed e w z = refused-success (sym (ap recordPaper w) ∙ e ∙ checked-good fault position tt z)
+  failed e w z = refused-success (sym (ap verdictPaper w) ∙ e ∙ checked-good fault position tt z)
 
   -- the refusal is that of any values which the checks stand before
   pub refused-alike :
-      {A : Type 0} (v : A) {r : RecordAnswer} {f : Refusal}
-      → recordPaper r ≡ recordAt image position fixed sign nameAt → r ≡ Refused f → refused (told f) ≡ checked fault position v
+      {A : Type 0} (v : A) {r : Verdict} {f : Refusal}
+      → verdictPaper r ≡ recordAt image position fixed sign nameAt → r ≡ Refused f → refused (told f) ≡ checked fault position v
   unfolding recordAt
   refused-alike v e w =
       let x = failed e w in
-      ap refused (same-told (sym (ap recordPaper w) ∙ e ∙ checked-bad fault position tt x)) ∙ sym (checked-bad fault position v x)
+      ap refused (same-told (sym (ap verdictPaper w) ∙ e ∙ checked-bad fault position tt x)) ∙ sym (checked-bad fault position v x)

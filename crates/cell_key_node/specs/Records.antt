@@ -9,9 +9,7 @@ use lib.Dec.{ltb, eqb}
 use lib.IntN.{natAbs}
 use Rattle.words.specs.Words.{word16, word32, signed}
 use Rattle.words.specs.Refusals.{SHORT, OUTSIDE, BAD-SIZE, BAD-SIGN, BAD-NAME}
-use Rattle.words.specs.Paper.{Paper, success, refused, told, checked}
-use Rattle.cell_key_node.specs.declared.RecordAnswer.{RecordAnswer}
-use Rattle.cell_key_node.specs.declared.RecordAnswer.the-variants.{Whole, Refused}
+use Rattle.words.specs.Paper.{Paper, checked}
 
 -- "size 0 (signed)": its magnitude
 unfoldable pub sizeOf : List ℕ → ℕ
@@ -42,8 +40,3 @@ faultAt image position fixed sign nameAt =
 -- "A refusal returns its number, the position of the .. record at fault"; of a record that passes the checks nothing is told
 unfoldable pub recordAt : List ℕ → ℕ → ℕ → ℕ → ℕ → Paper (Unit {0})
 recordAt image position fixed sign nameAt = checked (faultAt image position fixed sign nameAt) position tt
-
--- what the code's answer says
-abbrev pub recordPaper : RecordAnswer → Paper (Unit {0})
-recordPaper Whole = success tt
-recordPaper (Refused f) = refused (told f)

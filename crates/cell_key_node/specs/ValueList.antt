@@ -6,13 +6,12 @@ use lib.ListN.{length, drop}
 use lib.Dec.{ltb, leb, eqb}
 use lib.IntN.{ℤ}
 use Rattle.words.specs.Words.{word32, aboveZero}
-use Rattle.words.specs.Paper.{Told, Paper, success, refused, tell, by, told, noRoom}
+use Rattle.words.specs.Paper.{Paper, success, refused, by, told, toldOfRoom}
 use Rattle.words.specs.Refusals.{NO-LIST, TOO-MANY, OUTSIDE, CUT-SHORT}
-use Rattle.words.specs.Buffers.{inRoom, Answered}
+use Rattle.words.specs.Buffers.{needing, inRoom, Answered}
 use Rattle.sub_key_walk.specs.Answers.{COUNT-LIMIT}
 use Rattle.cell_key_node.specs.declared.PlaceAnswer.{PlaceAnswer}
 use Rattle.cell_key_node.specs.declared.PlaceAnswer.the-variants.{Nothing, Place, Refused as NoPlace}
-use Rattle.cell_key_node.specs.declared.ListRefusal.{ListRefusal}
 use Rattle.cell_key_node.specs.declared.ValueListAnswer.{ValueListAnswer}
 use Rattle.cell_key_node.specs.declared.ValueListAnswer.the-variants.{Listed, Refused as NoList}
 
@@ -52,7 +51,7 @@ counted count (refused t) = refused t
 
 -- "then 9": "NO ROOM also returns the places needed"
 unfoldable pub valueListOf : List ℕ → ℕ → ℕ → ℤ → ℕ → Paper ℕ
-valueListOf image base count offset room = inRoom (λ n. noRoom 0 n 0) room (counted count (placeOf image base count offset))
+valueListOf image base count offset room = inRoom needing room (counted count (placeOf image base count offset))
 
 -- "The entries are given as stored, relative": entry i, after the list's size word
 unfoldable pub entryOf : List ℕ → ℕ → ℕ
@@ -73,12 +72,9 @@ unfoldable pub entriesOf : List ℕ → ℕ → ℕ → ℤ → List ℕ
 entriesOf image base count offset = rowAt image count (placeOf image base count offset)
 
 -- what the code's answer says
-abbrev pub toldOfList : ListRefusal → Told
-toldOfList f = tell (f .number) (f .position) 0 (f .places) 0
-
 abbrev pub valueListPaper : ValueListAnswer → Paper ℕ
 valueListPaper (Listed n) = success n
-valueListPaper (NoList f) = refused (toldOfList f)
+valueListPaper (NoList f) = refused (toldOfRoom f)
 
 -- the answer r of a value list, and the buffer's contents before and after it
 abbrev pub ListAnswered : List ℕ → ℕ → ℕ → ℤ → List ℕ → ValueListAnswer → List ℕ → Type 0

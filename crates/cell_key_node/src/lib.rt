@@ -4,14 +4,17 @@ ghost use mathlib.Core.Path.{_≡_};
 ghost use Prim.Native.Nat.{_≤_};
 ghost use mathlib.Core.List.{_++_};
 ghost use lib.ListN.{length, drop};
+ghost use Rattle.words.specs.Paper.{verdictPaper};
 ghost use Rattle.words.specs.Parts.{Part};
-ghost use Rattle.cell_key_node.specs.Records.{sizeOf, cellFault, faultAt, recordAt, recordPaper};
+ghost use Rattle.cell_key_node.specs.Records.{sizeOf, cellFault, faultAt, recordAt};
 ghost use Rattle.cell_key_node.specs.Key.{keyOf, keyAt, keyPaper, keyName, keyNameAt, keySlack, keySlackAt};
 ghost use Rattle.cell_key_node.specs.ValueList.{placeOf, placePaper, upTo, entryOf, ListAnswered};
 ghost use Rattle.sub_key_walk.specs.Answers.{measured, walkPaper, WalkAnswered};
 use sub_key_walk::COUNT_LIMIT;
 use sub_key_walk::WalkAnswer;
 use words::Refusal;
+use words::RoomRefusal;
+use words::Verdict;
 
 // The fixed part of a key record, its signature "nk", and the place of its name's length.
 const FIXED: usize = 80;
@@ -45,12 +48,6 @@ pub struct KeyNode {
     pub class_name_size: u16,
 }
 
-// A record passes the checks, or is refused.
-pub enum RecordAnswer {
-    Whole,
-    Refused(Refusal),
-}
-
 // The record, or why there is none.
 pub enum KeyAnswer {
     Key(KeyNode),
@@ -64,17 +61,10 @@ pub enum PlaceAnswer {
     Refused(Refusal),
 }
 
-// A refusal of a value list: its number, its position and, of NO ROOM, the places needed.
-pub struct ListRefusal {
-    pub number: u32,
-    pub position: usize,
-    pub places: u32,
-}
-
 // The number of entries written, or why there are none.
 pub enum ValueListAnswer {
     Listed(u32),
-    Refused(ListRefusal),
+    Refused(RoomRefusal),
 }
 
 // The magnitude of the size word that a cell begins with.
@@ -130,14 +120,14 @@ pub fn check_record(
     fixed: usize,
     signature: u16,
     name_at: usize,
-) -> RecordAnswer
-    ensures { λ r. ⌜ recordPaper r ≡ recordAt (now (image .entry)) position fixed signature «name_at» ⌝ }
+) -> Verdict
+    ensures { λ r. ⌜ verdictPaper r ≡ recordAt (now (image .entry)) position fixed signature «name_at» ⌝ }
 {
     let fault = record_fault(image, position, fixed, signature, name_at);
     if fault == 0 {
-        RecordAnswer::Whole
+        Verdict::Whole
     } else {
-        RecordAnswer::Refused(Refusal {
+        Verdict::Refused(Refusal {
             number: fault,
             position: position,
         })
@@ -179,8 +169,8 @@ pub fn read_key_node(image: &[u8], position: usize) -> KeyAnswer
     ensures { λ r. ⌜ keyPaper r ≡ keyAt (now (image .entry)) position ⌝ }
 {
     match check_record(image, position, FIXED, SIGNATURE, NAME_SIZE_AT) {
-        RecordAnswer::Refused(refusal) => KeyAnswer::Refused(refusal),
-        RecordAnswer::Whole => {
+        Verdict::Refused(refusal) => KeyAnswer::Refused(refusal),
+        Verdict::Whole => {
             let cell = words::from(image, position);
             let key = key_in(cell);
             KeyAnswer::Key(key)
@@ -193,8 +183,8 @@ pub fn key_name(image: &[u8], position: usize) -> &[u8]
     ensures { λ r. ⌜ Part (image .entry) r (keyNameAt (now (image .entry)) position) (keyName (now (image .entry)) position) ⌝ }
 {
     match check_record(image, position, FIXED, SIGNATURE, NAME_SIZE_AT) {
-        RecordAnswer::Refused(_) => &image[0..0],
-        RecordAnswer::Whole => {
+        Verdict::Refused(_) => &image[0..0],
+        Verdict::Whole => {
             let cell = words::from(image, position);
             let size = words::u16_at(cell, NAME_SIZE_AT) as usize;
             words::part(cell, FIXED, size)
@@ -207,8 +197,8 @@ pub fn key_slack(image: &[u8], position: usize) -> &[u8]
     ensures { λ r. ⌜ Part (image .entry) r (keySlackAt (now (image .entry)) position) (keySlack (now (image .entry)) position) ⌝ }
 {
     match check_record(image, position, FIXED, SIGNATURE, NAME_SIZE_AT) {
-        RecordAnswer::Refused(_) => &image[0..0],
-        RecordAnswer::Whole => {
+        Verdict::Refused(_) => &image[0..0],
+        Verdict::Whole => {
             let cell = words::from(image, position);
             let size = size_of(cell) as usize;
             let whole = words::part(cell, 0, size);
@@ -288,17 +278,17 @@ pub fn value_list(
 {
     match value_list_place(image, base, count, offset) {
         PlaceAnswer::Nothing => ValueListAnswer::Listed(0),
-        PlaceAnswer::Refused(refusal) => ValueListAnswer::Refused(ListRefusal {
+        PlaceAnswer::Refused(refusal) => ValueListAnswer::Refused(RoomRefusal {
             number: refusal.number,
             position: refusal.position,
             places: 0,
         }),
         PlaceAnswer::Place(position) => {
             if out.len() < count as usize {
-                return ValueListAnswer::Refused(ListRefusal {
+                return ValueListAnswer::Refused(RoomRefusal {
                     number: words::NO_ROOM,
                     position: 0,
-                    places: count,
+                    places: count as usize,
                 });
             }
             let list = words::from(image, position);

@@ -4,7 +4,7 @@ use mathlib.Core.List.{List, [], _∷_}
 use mathlib.Core.Bool.{true, false}
 use Prim.Native.Nat.{ℕ}
 use lib.IntN.{ℤ, pos}
-use Rattle.words.specs.Paper.{refused, by}
+use Rattle.words.specs.Paper.{refused, by, andThen}
 use Rattle.words.specs.Refusals.{NO-LIST, OUTSIDE, NOT-FOUND}
 use Rattle.cell_key_node.specs.ValueList.{placeOf, entriesOf}
 use Rattle.cell_key_value.specs.Text.{lowerOf, sameText, matchesOf}
@@ -25,7 +25,7 @@ pub record Examples : Type 0 where
   pub flag-clear : matchesOf 2 (65 ∷ []) (65 ∷ []) ≡ false
 
 pub examples : Examples
-unfolding lookupOf lookThrough placeOf entriesOf matchesOf sameText lowerOf
+unfolding lookupOf lookThrough andThen placeOf entriesOf matchesOf sameText lowerOf
 examples =
     record {
       no-values = λ image base offset name. refl;

@@ -7,7 +7,7 @@ use native.Mathlib.Numerals.{add-one}
 use lib.ListN.{length, drop, drop-of-length-le}
 use lib.Seq.{drop-cons}
 use lib.IntN.{ℤ}
-use Rattle.words.specs.Paper.{Told, Paper, success, refused, by}
+use Rattle.words.specs.Paper.{Told, Paper, success, refused, by, andThen}
 use Rattle.words.specs.Refusals.{NOT-FOUND}
 use Rattle.cell_key_node.specs.ValueList.{nowhere, at, placeOf, upTo, entryOf, entriesOf}
 use Rattle.cell_key_node.proofs.Fill.{up-length, up-at}
@@ -48,13 +48,13 @@ module _ (image : List ℕ) (base : ℕ) (name : List ℕ) (f : ℕ → ℕ) (n 
 -- the lookup, where its list stands nowhere, stands at a place, is refused
 module _ (image : List ℕ) (base count : ℕ) (offset : ℤ) (name : List ℕ) where
   pub sought-nowhere : placeOf image base count offset ≡ success nowhere → lookupOf image base count offset name ≡ refused (by NOT-FOUND 0)
-  unfolding lookupOf entriesOf lookThrough
+  unfolding lookupOf entriesOf lookThrough andThen
   sought-nowhere e = rw e
 
   pub sought-at : (p : ℕ) → placeOf image base count offset ≡ success (at p) → lookupOf image base count offset name ≡ lookThrough image base name (upTo (entryOf (drop p image)) count)
-  unfolding lookupOf entriesOf
+  unfolding lookupOf entriesOf andThen
   sought-at p e = rw e
 
   pub sought-refused : (t : Told) → placeOf image base count offset ≡ refused t → lookupOf image base count offset name ≡ refused t
-  unfolding lookupOf
+  unfolding lookupOf andThen
   sought-refused t e = rw e

@@ -3,10 +3,10 @@ use Prim.Native.Nat.{ℕ, _+_}
 use mathlib.Core.List.{List, [], _∷_}
 use mathlib.Core.Bool.{cond}
 use lib.IntN.{ℤ}
-use Rattle.words.specs.Paper.{Paper, success, refused, by, told}
+use Rattle.words.specs.Paper.{Paper, success, refused, by, told, andThen}
 use Rattle.words.specs.Refusals.{NOT-FOUND}
 use Rattle.words.specs.declared.Refusal.{Refusal}
-use Rattle.cell_key_node.specs.ValueList.{Placed, placeOf, entriesOf}
+use Rattle.cell_key_node.specs.ValueList.{placeOf, entriesOf}
 use Rattle.cell_key_value.specs.Value.{valueAt, valueName}
 use Rattle.cell_key_value.specs.Text.{matchesOf}
 use Rattle.cell_key_value.specs.declared.KeyValue.{KeyValue}
@@ -30,13 +30,9 @@ lookThrough image base name [] = refused (by NOT-FOUND 0)
 lookThrough image base name (e ∷ es) = decided image name (e + base) (valueAt image (e + base)) (lookThrough image base name es)
 
 -- "the list's refusals without 9 come first". "Count 0 is NOT FOUND": there is no list, and no entry to go through.
-abbrev pub searched : Paper Placed → Paper FoundValue → Paper FoundValue
-searched (success l) through = through
-searched (refused t) through = refused t
-
 unfoldable pub lookupOf : List ℕ → ℕ → ℕ → ℤ → List ℕ → Paper FoundValue
 lookupOf image base count offset name =
-    searched (placeOf image base count offset)
+    andThen (placeOf image base count offset)
     (lookThrough image base name (entriesOf image base count offset))
 
 -- what the code's answer says

@@ -7,8 +7,8 @@ ghost use Rattle.cell_key_value.specs.Text.{lowerOf, sameText, matchesOf
 ghost use Rattle.cell_key_value.specs.Lookup.{refusalOf, lookThrough, lookupOf, lookupPaper};
 use cell_key_node::KeyNode;
 use cell_key_node::PlaceAnswer;
-use cell_key_node::RecordAnswer;
 use words::Refusal;
+use words::Verdict;
 
 // The fixed part of a value record, its signature "vk", and the place of its name's length.
 const FIXED: usize = 24;
@@ -67,8 +67,8 @@ pub fn read_key_value(image: &[u8], position: usize) -> ValueAnswer
     ensures { λ r. ⌜ valuePaper r ≡ valueAt (now (image .entry)) position ⌝ }
 {
     match cell_key_node::check_record(image, position, FIXED, SIGNATURE, NAME_SIZE_AT) {
-        RecordAnswer::Refused(refusal) => ValueAnswer::Refused(refusal),
-        RecordAnswer::Whole => {
+        Verdict::Refused(refusal) => ValueAnswer::Refused(refusal),
+        Verdict::Whole => {
             let cell = words::from(image, position);
             let value = value_in(cell);
             ValueAnswer::Value(value)
@@ -81,8 +81,8 @@ pub fn value_name(image: &[u8], position: usize) -> &[u8]
     ensures { λ r. ⌜ Part (image .entry) r (valueNameAt (now (image .entry)) position) (valueName (now (image .entry)) position) ⌝ }
 {
     match cell_key_node::check_record(image, position, FIXED, SIGNATURE, NAME_SIZE_AT) {
-        RecordAnswer::Refused(_) => &image[0..0],
-        RecordAnswer::Whole => {
+        Verdict::Refused(_) => &image[0..0],
+        Verdict::Whole => {
             let cell = words::from(image, position);
             let size = words::u16_at(cell, NAME_SIZE_AT) as usize;
             words::part(cell, FIXED, size)

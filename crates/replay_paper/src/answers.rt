@@ -21,7 +21,9 @@ use sub_key_list::SubKeyList;
 use sub_key_walk::LeafAnswer;
 use sub_key_walk::WalkAnswer;
 use sub_key_walk::WalkRefusal;
+use value_data::DataAnswer;
 use words::Refusal;
+use words::RoomRefusal;
 
 fn size(n: usize) {
     lines::number(n as u64);
@@ -31,6 +33,13 @@ fn refused(refusal: Refusal) {
     lines::text(b" refused");
     lines::word(refusal.number);
     size(refusal.position);
+}
+
+fn room_refused(refusal: RoomRefusal) {
+    lines::text(b" refused");
+    lines::word(refusal.number);
+    size(refusal.position);
+    size(refusal.places);
 }
 
 fn checksum(image: &[u8]) {
@@ -123,10 +132,7 @@ fn values_line(answer: ValueListAnswer, out: &[u32]) {
             places::written(out, count);
         }
         ValueListAnswer::Refused(refusal) => {
-            lines::text(b" refused");
-            lines::word(refusal.number);
-            size(refusal.position);
-            lines::word(refusal.places);
+            room_refused(refusal);
             places::untouched(out, 0);
         }
     }
@@ -432,6 +438,51 @@ fn put(case: Case) {
     put_line(case, &mut bytes[0..n]);
 }
 
+fn data_line(answer: DataAnswer, out: &[u8]) {
+    match answer {
+        DataAnswer::Copied(count) => {
+            lines::text(b" ok");
+            lines::word(count);
+        }
+        DataAnswer::Refused(refusal) => room_refused(refusal),
+    }
+    lines::row(out);
+    places::untouched_bytes(out);
+}
+
+// By the words a and b as a record's numbers, or by the record at the position a.
+fn data(image: &[u8], case: Case, out: &mut [u8]) {
+    places::prefill_bytes(out);
+    let answer = value_data::value_data(image, case.c, case.d, case.a, case.b, out);
+    data_line(answer, out);
+}
+
+fn data_of(image: &[u8], case: Case, out: &mut [u8]) {
+    match cell_key_value::read_key_value(image, case.a as usize) {
+        ValueAnswer::Value(value) => {
+            places::prefill_bytes(out);
+            let answer = value_data::value_data_of(image, case.c, case.d, value, out);
+            data_line(answer, out);
+        }
+        ValueAnswer::Refused(refusal) => refused(refusal),
+    }
+}
+
+// A case that has a buffer of bytes, with its first bytes lent.
+fn with_bytes(tag: u8, case: Case, image: &[u8]) {
+    let mut bytes = [0u8; 65536];
+    let n = case.e as usize;
+    if 65536 < n {
+        lines::text(b" bad room");
+        return;
+    }
+    if tag == 21 {
+        data(image, case, &mut bytes[0..n]);
+    } else {
+        data_of(image, case, &mut bytes[0..n]);
+    }
+}
+
 // A case that has a buffer, with its first places lent.
 fn with_room(tag: u8, case: Case, image: &[u8], out: &mut [u32], room: u32) {
     let n = room as usize;
@@ -470,6 +521,8 @@ pub fn answer(tag: u8, case: Case, image: &[u8], name: &[u8], out: &mut [u32]) {
         18 => cell_line(cell::cell_at(image, case.a as usize, case.b as usize)),
         19 => put(case),
         20 => counts_of(image, case),
+        21 => with_bytes(tag, case, image),
+        22 => with_bytes(tag, case, image),
         _ => lines::text(b" none"),
     }
 }

@@ -1,10 +1,13 @@
 -- What document 01 says of an answer tells the answers apart. Assumes nothing.
-use mathlib.Core.Path.{_≡_, sym}
+use mathlib.Core.Path.{_≡_, refl, ap, sym}
 use Prim.Native.Nat.{ℕ}
 use native.Mathlib.Omega.{arith}
 use borrow.Author.Tests.{eq-eqb, ne-eqb}
 use Rattle.words.specs.declared.Refusal.{Refusal}
-use Rattle.words.specs.Paper.{Told, Paper, success, refused, by, told, checked}
+use Rattle.words.specs.declared.RoomRefusal.{RoomRefusal}
+use Rattle.words.specs.declared.Verdict.{Verdict}
+use Rattle.words.specs.declared.Verdict.the-variants.{Whole, Refused}
+use Rattle.words.specs.Paper.{Told, Paper, success, refused, by, told, toldOfRoom, verdictPaper, onSuccess, andThen, checked}
 
 -- a success is no refusal
 pub success-refused : {A : Type 0} {v : A} {t : Told} → success v ≡ refused t → ⊥
@@ -23,6 +26,34 @@ same-told e = cc
 -- a refusal of the code is told apart by its number and its position
 pub same-refusal : {f g : Refusal} → told f ≡ told g → f ≡ g
 same-refusal e = λ i. record { number = e i .number; position = e i .position }
+
+pub same-room-refusal : {f g : RoomRefusal} → toldOfRoom f ≡ toldOfRoom g → f ≡ g
+same-room-refusal e = λ i. record { number = e i .number; position = e i .position; places = e i .places }
+
+pub verdict-injective : (r t : Verdict) → verdictPaper r ≡ verdictPaper t → r ≡ t
+verdict-injective Whole Whole e = refl
+verdict-injective Whole (Refused g) e = absurd (success-refused e)
+verdict-injective (Refused f) Whole e = absurd (refused-success e)
+verdict-injective (Refused f) (Refused g) e = ap Refused (same-refusal (same-told e))
+
+-- one answer after another
+module _ {A B : Type 0} {a : Paper A} (next : Paper B) where
+  pub then-next : {v : A} → a ≡ success v → andThen a next ≡ next
+  unfolding andThen
+  then-next e = rw e
+
+  pub then-refused : {t : Told} → a ≡ refused t → andThen a next ≡ refused t
+  unfolding andThen
+  then-refused e = rw e
+
+module _ {A B : Type 0} (f : A → B) {a : Paper A} where
+  pub on-success : {v : A} → a ≡ success v → onSuccess f a ≡ success (f v)
+  unfolding onSuccess
+  on-success e = rw e
+
+  pub on-refused : {t : Told} → a ≡ refused t → onSuccess f a ≡ refused t
+  unfolding onSuccess
+  on-refused e = rw e
 
 module _ {A : Type 0} (n p : ℕ) (v : A) where
   pub checked-good : n ≡ 0 → checked n p v ≡ success v

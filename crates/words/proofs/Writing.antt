@@ -2,7 +2,7 @@
 use mathlib.Core.Path.{_≡_, refl, sym, ap, _∙_}
 use mathlib.Core.Logic.{_⊎_, inl, inr}
 use mathlib.Core.Bool.{Bool, true, false}
-use mathlib.Core.List.{List, _∷_, _++_, append-assoc}
+use mathlib.Core.List.{List, [], _∷_, _++_, append-assoc}
 use Prim.Native.Nat.{ℕ, zero, suc, _+_, _-_, _*_, _/_, _%_, _^_, _≤_, _<_}
 use native.Mathlib.Nat.{one-le-pow, add-zero, zero-add, pow-suc, mod-lt, mod-eq-of-lt, sub-zero}
 use native.Mathlib.Decide.{decLe}
@@ -10,8 +10,8 @@ use native.Mathlib.Numerals.{add-one, one-add}
 use native.Mathlib.Omega.{arith}
 use lib.Arith.{digits-div, digits-mod, mod-mul}
 use lib.Dec.{leb}
-use lib.ListN.{length, take, drop, set, length-take, length-set, List·getD-append}
-use lib.Seq.{sets, sets-eq, length-sets, drop-cons, take-at, drop-at, take-append-seam, drop-append-add, getD-append-add, getD-take, getD-drop}
+use lib.ListN.{length, take, drop, set, length-append, length-take, length-set, take-append-drop, List·getD-append}
+use lib.Seq.{take-length, paste, sets, sets-eq, length-sets, drop-cons, take-at, drop-at, take-append-seam, drop-append-add, getD-append-add, getD-take, getD-drop}
 use borrow.Author.Tests.{le-leb, lt-leb, leb-true, leb-false}
 use Rattle.words.specs.Words.{byteAt, little}
 use Rattle.words.specs.Writing.{bytesOf, withBytes, PutAt}
@@ -126,6 +126,33 @@ module _ (old : List ℕ) (at : ℕ) (bytes : List ℕ) (h : at + length bytes �
       let j : ℕ = i - (at + length bytes) in
       ap (byteAt (withBytes old at bytes)) (omega arith) ∙ from-there (length bytes + j)
       ∙ getD-append-add bytes (drop (at + length bytes) old) j 0 ∙ getD-drop (at + length bytes) old j 0 ∙ ap (byteAt old) (omega arith)
+
+-- as a copy, byte by byte
+pub with-paste : (old : List ℕ) (at : ℕ) (bytes : List ℕ) → paste old at bytes (length bytes) ≡ withBytes old at bytes
+with-paste old at bytes = rw take-length (append-assoc (take at old) bytes (drop (at + length bytes) old))
+
+-- other bytes, and behind them further ones
+sets-more : (xs ys old : List ℕ) (at : ℕ) → sets old at (xs ++ ys) ≡ sets (sets old at xs) (at + length xs) ys
+sets-more [] ys old at = rw add-zero
+sets-more (x ∷ xs) ys old at = sets-more xs ys (set old at x) (suc at) ∙ ap (λ (k : ℕ). sets (sets (set old at x) (suc at) xs) k ys) (omega arith)
+
+pub with-more :
+    (old : List ℕ) (at : ℕ) (xs ys : List ℕ) → at + length xs + length ys ≤ length old
+    → withBytes (withBytes old at xs) (at + length xs) ys ≡ withBytes old at (xs ++ ys)
+with-more old at xs ys h =
+    let k : at + length xs ≤ length old = omega arith in
+    let l : length (withBytes old at xs) ≡ length old = with-length old at xs k in
+    let e : length (xs ++ ys) ≡ length xs + length ys = length-append xs ys in
+    with-sets (withBytes old at xs) (at + length xs) ys (omega arith)
+    ∙ ap (λ (s : List ℕ). sets s (at + length xs) ys) (with-sets old at xs k) ∙ sym (sets-more xs ys old at)
+    ∙ sym (with-sets old at (xs ++ ys) (omega arith))
+
+-- from the first place on
+pub with-front : (old bytes : List ℕ) → withBytes old 0 bytes ≡ bytes ++ drop (length bytes) old
+with-front old bytes = rw zero-add
+
+pub with-none : (old : List ℕ) (at : ℕ) → withBytes old at [] ≡ old
+with-none old at = rw add-zero (take-append-drop at old)
 
 -- ---- what is promised of a number that is written
 

@@ -5,13 +5,17 @@ use mathlib.Core.List.{List, _++_}
 use mathlib.Core.Bool.{cond}
 use lib.Dec.{ltb}
 use lib.ListN.{length, drop}
-use Rattle.words.specs.Paper.{Told, Paper, success, refused}
+use Rattle.words.specs.Paper.{Told, Paper, success, refused, noRoom}
 
 -- "9 NO ROOM: all else succeeds and the buffer has too few places". `full` is what the refusal tells of a success, the places
 -- needed among it.
 unfoldable pub inRoom : {A : Type 0} → (A → Told) → ℕ → Paper A → Paper A
 inRoom full room (success v) = cond (ltb room (full v .places)) (refused (full v)) (success v)
 inRoom full room (refused t) = refused t
+
+-- where the success is the number of places that are written
+abbrev pub needing : ℕ → Told
+needing n = noRoom 0 n 0
 
 -- "On success the output is written from the first place on, and the places after the last one written keep their old contents."
 -- A refusal "changes no place of the output buffer". The buffer held `old`, and a success writes the row `ks`.

@@ -1,10 +1,14 @@
 -- What document 01 says that a function answers: it succeeds with values, or it is refused.
+use Prim.{Unit, tt}
 use Prim.Native.Nat.{ℕ}
 use mathlib.Core.Bool.{cond}
 use mathlib.Core.List.{List, []}
 use lib.Dec.{eqb}
 use Rattle.words.specs.Refusals.{NO-ROOM}
 use Rattle.words.specs.declared.Refusal.{Refusal}
+use Rattle.words.specs.declared.RoomRefusal.{RoomRefusal}
+use Rattle.words.specs.declared.Verdict.{Verdict}
+use Rattle.words.specs.declared.Verdict.the-variants.{Whole, Refused}
 
 -- "A refusal returns its number, the position of the list, bin, cell or record at fault .. and, from the walk, the lists read so
 -- far. Other fields are 0, except that NO ROOM also returns the places needed and the walk's entry count."
@@ -36,9 +40,23 @@ unfoldable pub onSuccess : {A B : Type 0} → (A → B) → Paper A → Paper B
 onSuccess f (success v) = success (f v)
 onSuccess f (refused t) = refused t
 
--- what the code's record of a refusal tells
+-- one answer after another: the first that is refused decides
+unfoldable pub andThen : {A B : Type 0} → Paper A → Paper B → Paper B
+andThen (success v) next = next
+andThen (refused t) next = refused t
+
+-- ---- what the code's records of a refusal tell
+
 abbrev pub told : Refusal → Told
 told f = by (f .number) (f .position)
+
+abbrev pub toldOfRoom : RoomRefusal → Told
+toldOfRoom f = tell (f .number) (f .position) 0 (f .places) 0
+
+-- where all checks are passed nothing is told
+abbrev pub verdictPaper : Verdict → Paper (Unit {0})
+verdictPaper Whole = success tt
+verdictPaper (Refused f) = refused (told f)
 
 -- ---- where a row of checks gives the number of the first that fails, and 0 where none does
 

@@ -1,4 +1,4 @@
--- Document 01, "Refusal numbers": the table, by name. The names are those of the code's constants.
+-- Document 01, "Refusal numbers": the table, by name, and what document 02 adds to it. The names are those of the code's constants.
 use Prim.Native.Nat.{ℕ}
 use mathlib.Core.List.{List, [], _∷_}
 
@@ -50,8 +50,12 @@ OUT-OF-STEPS = 15
 abbrev pub NOT-FOUND : ℕ
 NOT-FOUND = 16
 
+-- order 1: "17 BAD DATA"
+abbrev pub BAD-DATA : ℕ
+BAD-DATA = 17
+
 -- the table whole, in its order
 abbrev pub numbers : List ℕ
 numbers =
     SHORT ∷ OUTSIDE ∷ BAD-SIZE ∷ BAD-SIGN ∷ BAD-NAME ∷ NO-LIST ∷ TOO-MANY ∷ CUT-SHORT ∷ NO-ROOM ∷ BAD-BIN ∷ BAD-CELL ∷ TOO-LARGE ∷ BAD-BUDGET
-    ∷ TOO-DEEP ∷ OUT-OF-STEPS ∷ NOT-FOUND ∷ []
+    ∷ TOO-DEEP ∷ OUT-OF-STEPS ∷ NOT-FOUND ∷ BAD-DATA ∷ []

@@ -1,4 +1,4 @@
-// Words read out of a slice, and the numbers of document 01's refusals. Every function takes any slice and any position: a
+// Words read out of a slice, and the refusals: their numbers, and what one tells. Every function takes any slice and any position: a
 // byte past the end counts as 0, so that nothing above this crate has an index to prove.
 ghost use mathlib.Core.Path.{_≡_};
 ghost use Prim.Native.Nat.{_+_, _-_, _*_};
@@ -10,7 +10,7 @@ ghost use Rattle.words.specs.Parts.{Part, startOf};
 ghost use Rattle.words.specs.Writing.{PutAt};
 ghost use Rattle.words.specs.Words.{byteAt, word16, word32, word64, signed, aboveZero};
 
-// Document 01's table of refusals, by name.
+// Document 01's table of refusals, and what document 02 adds to it, by name.
 pub const SHORT: u32 = 1;
 
 pub const OUTSIDE: u32 = 2;
@@ -43,8 +43,10 @@ pub const OUT_OF_STEPS: u32 = 15;
 
 pub const NOT_FOUND: u32 = 16;
 
+pub const BAD_DATA: u32 = 17;
+
 // The table whole: each constant is the number that the definitions have under its name.
-fn refusal_numbers() -> [u32; 16]
+fn refusal_numbers() -> [u32; 17]
     ensures { λ r. ⌜ r ≡ numbers ⌝ }
 {
     [
@@ -64,6 +66,7 @@ fn refusal_numbers() -> [u32; 16]
         TOO_DEEP,
         OUT_OF_STEPS,
         NOT_FOUND,
+        BAD_DATA,
     ]
 }
 
@@ -71,6 +74,19 @@ fn refusal_numbers() -> [u32; 16]
 pub struct Refusal {
     pub number: u32,
     pub position: usize,
+}
+
+// A refusal of what is written into a lent buffer: also, of NO ROOM, the places needed.
+pub struct RoomRefusal {
+    pub number: u32,
+    pub position: usize,
+    pub places: usize,
+}
+
+// All checks are passed, or the first that fails refuses.
+pub enum Verdict {
+    Whole,
+    Refused(Refusal),
 }
 
 // How many positions of `s` have more than `more` bytes from there on.
@@ -218,7 +234,7 @@ fn has_room(room: usize, at: usize, n: usize) -> bool
 }
 
 // `n` bytes of a number from a place on, the lowest first: whether they all fit. Where they do not, none is written.
-fn put_bytes(out: &mut [u8], at: usize, n: usize, x: u64) -> bool
+pub fn put_bytes(out: &mut [u8], at: usize, n: usize, x: u64) -> bool
     ensures { λ r. ⌜ PutAt n x at (now (out .entry)) r (now (out .exit)) ⌝ }
 {
     let room = out.len();

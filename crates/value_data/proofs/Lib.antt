@@ -1,0 +1,6 @@
+pub mod Pieces
+pub mod Sizes
+pub mod Big
+pub mod Copies
+pub mod Places
+pub mod Answers

@@ -4,3 +4,6 @@ pub mod Big
 pub mod Copies
 pub mod Places
 pub mod Answers
+pub mod Whole
+pub mod Answered
+pub mod Limits

@@ -1,3 +1,4 @@
 pub mod Pieces
 pub mod Data
 pub mod Answers
+pub mod Whole

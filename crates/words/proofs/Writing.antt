@@ -4,7 +4,7 @@ use mathlib.Core.Logic.{_⊎_, inl, inr}
 use mathlib.Core.Bool.{Bool, true, false}
 use mathlib.Core.List.{List, [], _∷_, _++_, append-assoc}
 use Prim.Native.Nat.{ℕ, zero, suc, _+_, _-_, _*_, _/_, _%_, _^_, _≤_, _<_}
-use native.Mathlib.Nat.{one-le-pow, add-zero, zero-add, pow-suc, mod-lt, mod-eq-of-lt, sub-zero}
+use native.Mathlib.Nat.{one-le-pow, add-zero, zero-add, suc-add, pow-suc, mod-lt, mod-eq-of-lt, sub-zero}
 use native.Mathlib.Decide.{decLe}
 use native.Mathlib.Numerals.{add-one, one-add}
 use native.Mathlib.Omega.{arith}
@@ -23,6 +23,12 @@ pub bytes-length : (n x : ℕ) → length (bytesOf n x) ≡ n
 unfolding bytesOf
 bytes-length zero x = refl
 bytes-length (suc n) x = ap suc (bytes-length n (x / 256))
+
+-- fewer of them are the first of more
+pub bytes-first : (n m x : ℕ) → bytesOf n x ≡ take n (bytesOf (n + m) x)
+unfolding bytesOf
+bytes-first zero m x = refl
+bytes-first (suc n) m x = ap (λ (r : List ℕ). x % 256 ∷ r) (bytes-first n m (x / 256)) ∙ ap (λ (k : ℕ). take (suc n) (bytesOf k x)) (sym (suc-add n m))
 
 -- every one is a byte
 pub bytes-lt : (n x : ℕ) → Bytes (bytesOf n x)

@@ -1,0 +1,171 @@
+-- The sentences of specs/Whole.antt, of the answers. Assumes nothing.
+use Prim.{Unit, tt}
+use mathlib.Core.Path.{_≡_, refl, sym, ap, _∙_}
+use mathlib.Core.List.{List, [], _∷_, _++_}
+use mathlib.Core.Bool.{Bool, true, false, cond}
+use Prim.Native.Nat.{ℕ, zero, suc, _+_, _-_, _*_, _≤_, _<_, min}
+use native.Mathlib.Decide.{decLe}
+use native.Mathlib.Omega.{arith}
+use lib.Dec.{ltb, eqb}
+use borrow.Author.Tests.{eqb-true}
+use lib.ListN.{length, getD, take, drop, length-append, length-take, length-drop}
+use lib.Seq.{take-append-seam, drop-append-seam}
+use Rattle.words.specs.Paper.{Told, Paper, success, refused, by, onSuccess, andThen}
+use Rattle.words.specs.Refusals.{BAD-DATA, NO-ROOM}
+use Rattle.words.specs.Writing.{bytesOf}
+use Rattle.words.proofs.Papers.{success-refused, same-success, same-told}
+use Rattle.words.proofs.Writing.{bytes-length}
+use Rattle.cell.specs.Cells.{Cell, held, tooSmall, magnitudeAt, cellAt}
+use Rattle.cell.specs.Exactly.{Reads}
+use Rattle.cell.specs.declared.CellSize.{CellSize}
+use Rattle.cell.specs.declared.CellAnswer.the-variants.{Held}
+use Rattle.cell.proofs.Exactly.{held-reads}
+use Rattle.cell_key_node.specs.ValueList.{upTo, entryOf}
+use Rattle.cell_key_node.proofs.Fill.{up-length}
+use Rattle.value_data.specs.Pieces.{Piece, piece, bytesIn, joined, sized, holds, judged, SEGMENT, segments}
+use Rattle.value_data.specs.Data.{sizeOf, Source, field, pieces, whole, segmentsNeeded, bigAt, listOf, listPiece, segmentsAt, fromList, inSegments, isBig, sourceOf}
+use Rattle.value_data.specs.Answers.{bytesFrom}
+use Rattle.value_data.specs.Whole.{total, at, FullButLast, Lies, MadeOf, FirstFault}
+use Rattle.value_data.proofs.Sizes.{needed-enough, needed-least}
+
+-- ---- one cell
+
+pub holds-lies : (image : List ℕ) (q : Piece) → holds image q ≡ success tt → Lies image q
+unfolding holds
+holds-lies image q e = go (cellAt image (q .cell) (4 + q .long)) refl e
+  where
+    go : (a : Paper Cell) → cellAt image (q .cell) (4 + q .long) ≡ a → sized a ≡ success tt → Lies image q
+    go (success (held z)) x y =
+        let r : Reads image (q .cell) (4 + q .long) z = held-reads image (q .cell) (4 + q .long) (Held z) (sym x) refl in
+        let m : z .magnitude ≡ magnitudeAt image (q .cell) = ap (λ (w : CellSize). w .magnitude) (r .size) in
+        let n = r .enough in
+        let i = r .inside in
+        record { own = omega arith; inside = omega arith }
+    go (success (tooSmall z)) x y = absurd (success-refused (sym y))
+    go (refused t) x y = absurd (success-refused (sym y))
+
+-- so its bytes are all there
+pub lies-length : (image : List ℕ) (q : Piece) → Lies image q → length (bytesIn image q) ≡ q .long
+lies-length image q l =
+    let o = l .own in
+    let i = l .inside in
+    omega (arith, length-take (q .long) (drop 4 (drop (q .cell) image)), length-drop 4 (drop (q .cell) image), length-drop (q .cell) image)
+
+-- ---- a row of them
+
+pub both : {A : Type 0} (a : Paper (Unit {0})) (b : Paper A) {v : A} → andThen a b ≡ success v → (a ≡ success tt) × (b ≡ success v)
+unfolding andThen
+both (success u) b e = (refl, e)
+both (refused t) b e = absurd (success-refused (sym e))
+
+pub judged-lies : (image : List ℕ) (qs : List Piece) → judged image qs ≡ success tt → (i : ℕ) → i < length qs → Lies image (at qs i)
+unfolding judged
+judged-lies image [] e i h = absurd (omega arith)
+judged-lies image (q ∷ qs) e zero h = holds-lies image q (both (holds image q) (judged image qs) e .0)
+judged-lies image (q ∷ qs) e (suc i) h = judged-lies image qs (both (holds image q) (judged image qs) e .1) i (omega arith)
+
+pub joined-length : (image : List ℕ) (qs : List Piece) → ((i : ℕ) → i < length qs → Lies image (at qs i)) → length (joined image qs) ≡ total qs
+unfolding joined total
+joined-length image [] l = refl
+joined-length image (q ∷ qs) l =
+    length-append (bytesIn image q) (joined image qs)
+    ∙ (λ k. lies-length image q (l zero (omega arith)) k + joined-length image qs (λ i h. l (suc i) (omega arith)) k)
+
+pub first-fault : FirstFault
+unfolding judged andThen
+first-fault image [] q after t e f = rw f
+first-fault image (p ∷ before) q after t e f =
+    let two = both (holds image p) (judged image before) e in
+    rw (two .0) (first-fault image before q after t (two .1) f)
+
+-- ---- segments: their lengths sum to the size, and every one but the last is full
+
+pub segments-total : (base : ℕ) (es : List ℕ) (left : ℕ) → left ≤ length es * SEGMENT → total (segments base es left) ≡ left
+unfolding segments total
+segments-total base [] left h = omega arith
+segments-total base (e ∷ es) left h = omega (arith, segments-total base es (left - SEGMENT) (omega arith))
+
+pub segments-length : (base : ℕ) (es : List ℕ) (left : ℕ) → length (segments base es left) ≡ length es
+unfolding segments
+segments-length base [] left = refl
+segments-length base (e ∷ es) left = ap suc (segments-length base es (left - SEGMENT))
+
+pub segments-full : (base : ℕ) (es : List ℕ) (left i : ℕ) → (i + 1) * SEGMENT ≤ left → i < length es → at (segments base es left) i .long ≡ SEGMENT
+unfolding segments
+segments-full base [] left i h k = absurd (omega arith)
+segments-full base (e ∷ es) left zero h k = omega arith
+segments-full base (e ∷ es) left (suc i) h k = segments-full base es (left - SEGMENT) i (omega arith) (omega arith)
+
+-- ---- the pieces that a value's data is made of
+
+whole-is : (image : List ℕ) (ps qs : List Piece) → whole image ps ≡ success (pieces qs) → (judged image ps ≡ success tt) × (ps ≡ qs)
+unfolding onSuccess
+whole-is image ps qs e = go (judged image ps) refl e
+  where
+    same : pieces ps ≡ pieces qs → ps ≡ qs
+    same x = cc
+
+    go : (a : Paper (Unit {0})) → judged image ps ≡ a → onSuccess (λ u. pieces ps) a ≡ success (pieces qs) → (judged image ps ≡ success tt) × (ps ≡ qs)
+    go (success u) x y = (x, same (same-success y))
+    go (refused t) x y = absurd (success-refused (sym y))
+
+module _ (image : List ℕ) (base minor size offset : ℕ) where
+  one-made : (p : ℕ) (qs : List Piece) → whole image (piece p size ∷ []) ≡ success (pieces qs) → MadeOf image size qs
+  unfolding total
+  one-made p qs e =
+      let w = whole-is image (piece p size ∷ []) qs e in
+      rw (← w .1) (record { sum = omega arith; full = λ i h. absurd (omega arith); lies = judged-lies image (piece p size ∷ []) (w .0) })
+
+  segments-made : (l : ℕ) (qs : List Piece) → whole image (segmentsAt image base l size) ≡ success (pieces qs) → MadeOf image size qs
+  unfolding segmentsAt
+  segments-made l qs e =
+      let es : List ℕ = upTo (entryOf (drop l image)) (segmentsNeeded size) in
+      let n : length es ≡ segmentsNeeded size = up-length (entryOf (drop l image)) (segmentsNeeded size) in
+      let w = whole-is image (segments base es size) qs e in
+      let long = segments-length base es size in
+      let enough = needed-enough size in
+      rw (← w .1)
+      (record {
+        sum = segments-total base es size (rw n enough);
+        full = λ i h. segments-full base es size i (not-last i (omega arith)) (omega arith);
+        lies = judged-lies image (segments base es size) (w .0);
+      })
+    where
+      not-last : (i : ℕ) → i + 1 < segmentsNeeded size → (i + 1) * SEGMENT ≤ size
+      not-last i h = go (decLe ((i + 1) * SEGMENT) size)
+        where
+          go : Dec ((i + 1) * SEGMENT ≤ size) → (i + 1) * SEGMENT ≤ size
+          go (yes k) = k
+          go (no k) = let least = needed-least size (i + 1) (omega arith) in absurd (omega arith)
+
+  pub made : (resident : Bool) (qs : List Piece) → sourceOf image base minor resident size offset ≡ success (pieces qs) → MadeOf image size qs
+  unfolding sourceOf inSegments fromList total
+  made resident qs e = go resident (ltb 4 size) (eqb size 0) (isBig minor size) refl e
+    where
+      field-pieces : {ps : List Piece} → field ≡ pieces ps → ⊥
+      field-pieces x = let z : _≡_ {A = ℕ} 0 1 = cc in absurd (omega arith)
+
+      none-made : size ≡ 0 → pieces [] ≡ pieces qs → MadeOf image size qs
+      none-made z x =
+          let y : [] ≡ qs = cc in
+          rw (← y) (record { sum = sym z; full = λ i h. absurd (omega arith); lies = λ i h. absurd (omega arith) })
+
+      go : (r l z b : Bool) → eqb size 0 ≡ z
+          → cond r (cond l (refused (by BAD-DATA 0)) (success field))
+          (cond z (success (pieces []))
+          (cond b (inSegments image base (offset + base) size) (whole image (piece (offset + base) size ∷ []))))
+          ≡ success (pieces qs)
+          → MadeOf image size qs
+      go true true z b n x = absurd (success-refused (sym x))
+      go true false z b n x = absurd (field-pieces (same-success x))
+      go false l true b n x = none-made (eqb-true _ _ n) (same-success x)
+      go false l false true n x =
+          segments-made (listOf image base (offset + base)) qs (both (holds image (listPiece (listOf image base (offset + base)) size)) _ (both (bigAt image (offset + base) (segmentsNeeded size)) _ x .1) .1)
+      go false l false false n x = one-made (offset + base) qs x
+
+  -- its bytes are as many as its size says
+  pub row-length : (resident : Bool) (s : Source) → sourceOf image base minor resident size offset ≡ success s → length (bytesFrom image size offset s) ≡ size
+  row-length resident field e = bytes-length size offset
+  row-length resident (pieces qs) e =
+      let m = made resident qs e in
+      joined-length image qs (m .lies) ∙ m .sum

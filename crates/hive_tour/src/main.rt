@@ -4,10 +4,12 @@ use base_block::BlockAnswer;
 use cell_key_node::KeyAnswer;
 use cell_key_node::KeyNode;
 use cell_key_node::ValueListAnswer;
+use cell_key_value::KeyValue;
 use cell_key_value::LookupAnswer;
 use cell_key_value::ValueAnswer;
 use hive_bin::BinsAnswer;
 use sub_key_walk::WalkAnswer;
+use value_data::DataAnswer;
 
 // Where the bins begin, the most lists that the walk reads, and the most subkeys that are visited.
 const BASE: u32 = 4096;
@@ -43,8 +45,28 @@ fn refused(n: u32, position: usize) {
     line();
 }
 
+fn bytes(row: &[u8]) {
+    let mut i: usize = 0;
+    while i < row.len() {
+        say(b" ");
+        io::print_hex(1, words::byte_at(row, i) as u64, 2);
+        i += 1;
+    }
+    line();
+}
+
+// Step 8: the data of a value, into a lent buffer. A buffer that is too small is refused by 9, with the places needed.
+fn data(image: &[u8], minor: u32, value: KeyValue) {
+    let mut out = [0u8; 64];
+    say(b"  data");
+    match value_data::value_data_of(image, BASE, minor, value, &mut out) {
+        DataAnswer::Refused(f) => refused(f.number, f.position),
+        DataAnswer::Copied(n) => bytes(words::part(&out, 0, n as usize)),
+    }
+}
+
 // Step 7: one value by its name.
-fn lookup(image: &[u8], key: KeyNode, name: &[u8]) {
+fn lookup(image: &[u8], minor: u32, key: KeyNode, name: &[u8]) {
     say(b"  lookup");
     match cell_key_value::find_value_of(image, BASE, key, name) {
         LookupAnswer::Refused(f) => refused(f.number, f.position),
@@ -52,6 +74,8 @@ fn lookup(image: &[u8], key: KeyNode, name: &[u8]) {
             let position = found.position;
             named(position, cell_key_value::value_name(image, position));
             line();
+            let v = found.value;
+            data(image, minor, v);
         }
     }
 }
@@ -91,8 +115,8 @@ fn values(image: &[u8], key: KeyNode) {
     }
 }
 
-// A subkey: its record and name, its values, and one of them by name. A walk gives positions, with the base in them.
-fn sub_key(image: &[u8], offset: u32) {
+// A subkey: its record and name, its values, and one of them by name, with its data. A walk gives positions, with the base in them.
+fn sub_key(image: &[u8], minor: u32, offset: u32) {
     let position = offset as usize;
     say(b" key");
     match cell_key_node::read_key_node(image, position) {
@@ -101,24 +125,24 @@ fn sub_key(image: &[u8], offset: u32) {
             named(position, cell_key_node::key_name(image, position));
             line();
             values(image, key);
-            lookup(image, key, b"VALUE1");
+            lookup(image, minor, key, b"VALUE1");
         }
     }
 }
 
-fn each_sub_key(image: &[u8], out: &[u32], n: u32) {
+fn each_sub_key(image: &[u8], minor: u32, out: &[u32], n: u32) {
     let mut i: usize = 0;
     while i < out.len() {
         if n as usize <= i {
             return;
         }
-        sub_key(image, out[i]);
+        sub_key(image, minor, out[i]);
         i += 1;
     }
 }
 
 // Step 4: the subkeys of a key, into a lent buffer; the first few are visited.
-fn sub_keys(image: &[u8], key: KeyNode) {
+fn sub_keys(image: &[u8], minor: u32, key: KeyNode) {
     let mut out = [0u32; 64];
     match cell_key_node::sub_keys_of(image, BASE, key, BUDGET, &mut out) {
         WalkAnswer::Refused(f) => refused(f.number, f.position),
@@ -126,13 +150,13 @@ fn sub_keys(image: &[u8], key: KeyNode) {
             number(c.kept as u64);
             line();
             let few = if c.kept < FEW { c.kept } else { FEW };
-            each_sub_key(image, &out, few);
+            each_sub_key(image, minor, &out, few);
         }
     }
 }
 
 // Step 3: the root key, at the root offset plus the base. The offset is signed, and a negative one is refused by 2.
-fn root(image: &[u8], offset: i32) {
+fn root(image: &[u8], minor: u32, offset: i32) {
     say(b" root");
     if offset < 0 {
         refused(words::OUTSIDE, 0);
@@ -143,29 +167,34 @@ fn root(image: &[u8], offset: i32) {
         KeyAnswer::Refused(f) => refused(f.number, f.position),
         KeyAnswer::Key(key) => {
             named(position, cell_key_node::key_name(image, position));
-            sub_keys(image, key);
+            sub_keys(image, minor, key);
         }
     }
 }
 
 // Step 2: bins and cells, before anything in them is believed.
-fn bins(image: &[u8], size: u32, root_offset: i32) {
+fn bins(image: &[u8], minor: u32, size: u32, root_offset: i32) {
     say(b" bins");
     match hive_bin::check_bins(image, BASE, size) {
         BinsAnswer::Refused(f) => refused(f.number, f.position),
         BinsAnswer::Totals(t) => {
             number(t.bins as u64);
             line();
-            root(image, root_offset);
+            root(image, minor, root_offset);
         }
     }
 }
 
-// Step 1: the base block, which tells the bins' size and where the root key is.
+// Step 1: the base block, which tells the minor version, the bins' size and where the root key is.
 fn tour(image: &[u8]) {
     match base_block::read_base_block(image) {
         BlockAnswer::Refused(f) => refused(f.number, f.position),
-        BlockAnswer::Block(b) => bins(image, b.hive_bins_data_size, b.root_cell_offset),
+        BlockAnswer::Block(b) => bins(
+            image,
+            b.minor_version,
+            b.hive_bins_data_size,
+            b.root_cell_offset,
+        ),
     }
 }
 

@@ -8,10 +8,10 @@ use Rattle.hive_tour.proofs.each_sub_key.Lts as lts
 use Rattle.hive_tour.proofs.sub_key.Reads as sub-key-reads
 
 abbrev Inv-loop : tie.InvT-loop
-Inv-loop image out n i₀ i = i ≤ length out
+Inv-loop image minor out n i₀ i = i ≤ length out
 
 abbrev μ-loop : tie.MeasureT-loop
-μ-loop image out n i₀ i = length out - i
+μ-loop image minor out n i₀ i = length out - i
 
 loop-holds : tie.Need-loop-holds Inv-loop μ-loop
 loop-holds c = search needs

@@ -8,22 +8,22 @@ use native.Mathlib.Omega.{arith}
 use lib.Dec.{ltb, eqb}
 use lib.ListN.{length, take, drop}
 use lib.Seq.{take-at, drop-at}
-use borrow.Author.Tests.{ltb-true}
+use borrow.Author.Tests.{ltb-true, lt-leb}
 use Rattle.words.specs.Paper.{Told, Paper, success, refused, by, toldOfRoom, onSuccess, andThen}
 use Rattle.words.specs.Refusals.{NO-ROOM, BAD-DATA, BAD-SIGN, CUT-SHORT}
 use Rattle.words.specs.Buffers.{needing, inRoom}
 use Rattle.words.specs.declared.RoomRefusal.{RoomRefusal}
-use Rattle.words.proofs.Papers.{success-refused, refused-success, same-told, on-success-of}
+use Rattle.words.proofs.Papers.{success-refused, refused-success, same-success, same-told, on-success-of}
 use Rattle.words.proofs.Buffers.{room-success, untouched, filled}
 use Rattle.cell.specs.Cells.{Cell, held, tooSmall, magnitudeAt, bytesLeft, cellAt}
 use Rattle.cell_big_data.specs.Big.{isBigDataBlock}
 use Rattle.words.specs.Words.{word16}
-use Rattle.value_data.specs.Pieces.{Piece, piece, sized, holds, judged}
-use Rattle.value_data.specs.Data.{isResident, sizeOf, Source, field, pieces, whole, segmentsNeeded, bigHead, bigIn, bigAt, listOf, listPiece, segmentsAt, fromList, inSegments, isBig, sourceOf}
+use Rattle.value_data.specs.Pieces.{Piece, piece, joined, sized, holds, judged}
+use Rattle.value_data.specs.Data.{TOP-BIT, isResident, sizeOf, Source, field, pieces, whole, segmentsNeeded, bigHead, bigIn, bigAt, listOf, listPiece, segmentsAt, fromList, inSegments, isBig, sourceOf}
 use Rattle.value_data.specs.Answers.{bytesFrom, dataOf, dataBytes, dataIn, DataAnswered}
-use Rattle.value_data.specs.Whole.{WasCopied, WasRefused}
+use Rattle.value_data.specs.Whole.{MadeOf, WasCopied, WasRefused, FromPieces}
 use Rattle.value_data.specs.declared.DataAnswer.the-variants.{Copied, Refused}
-use Rattle.value_data.proofs.Whole.{row-length}
+use Rattle.value_data.proofs.Whole.{both, made, row-length}
 
 module _ (image : List ℕ) (base minor raw offset : ℕ) (old new : List ℕ) where
   -- where bytes were copied, the data was found
@@ -51,6 +51,42 @@ module _ (image : List ℕ) (base minor raw offset : ℕ) (old new : List ℕ) w
         bytes = long;
         behind = ap (drop n) w ∙ drop-at ks (drop n old) n long;
       }
+
+-- ---- where the top bit is not set the data is a row of pieces
+
+field-pieces : {ps : List Piece} → pieces ps ≡ field → ⊥
+field-pieces x = let z : _≡_ {A = ℕ} 0 1 = cc in absurd (omega arith)
+
+no-field : (image : List ℕ) (ps : List Piece) → whole image ps ≡ success field → ⊥
+no-field image ps e = field-pieces (on-success-of (λ u. pieces ps) (judged image ps) e .2)
+
+never-field : (image : List ℕ) (base minor size offset : ℕ) → sourceOf image base minor false size offset ≡ success field → ⊥
+unfolding sourceOf inSegments fromList
+never-field image base minor size offset e = go (eqb size 0) (isBig minor size) e
+  where
+    go : (z b : Bool)
+        → cond z (success (pieces [])) (cond b (inSegments image base (offset + base) size) (whole image (piece (offset + base) size ∷ []))) ≡ success field
+        → ⊥
+    go true b x = field-pieces (same-success x)
+    go false true x = no-field image _ (both (holds image (listPiece (listOf image base (offset + base)) size)) _ (both (bigAt image (offset + base) (segmentsNeeded size)) _ x .1) .1)
+    go false false x = no-field image _ x
+
+pub from-pieces : FromPieces
+unfolding dataOf dataBytes
+from-pieces image base minor raw offset old new n t x =
+    let y = found image base minor raw offset old new x in
+    let c = copied image base minor raw offset old new n x in
+    go (y .1 .0) (y .1 .1) (y .1 .2) (c .row)
+  where
+    r : isResident raw ≡ false
+    r = lt-leb TOP-BIT raw t
+
+    go : (s : Source) → dataOf image base minor raw offset ≡ success s → sizeOf raw ≡ n → take n new ≡ dataBytes image base minor raw offset
+        → (qs : List Piece) × MadeOf image n qs × (take n new ≡ joined image qs)
+    go field e z w = absurd (never-field image base minor (sizeOf raw) offset (rw r at e))
+    go (pieces qs) e z w =
+        let m : MadeOf image (sizeOf raw) qs = made image base minor (sizeOf raw) offset (isResident raw) qs e in
+        (qs, rw z at m, w ∙ rw e)
 
 -- ---- no refusal of the data itself is NO ROOM
 

@@ -7,3 +7,4 @@ pub mod Answers
 pub mod Whole
 pub mod Answered
 pub mod Limits
+pub mod Papers

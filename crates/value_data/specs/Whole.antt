@@ -13,7 +13,7 @@ use Rattle.words.specs.declared.RoomRefusal.{RoomRefusal}
 use Rattle.cell.specs.Cells.{magnitudeAt}
 use Rattle.cell_key_value.specs.Value.{valueAt}
 use Rattle.cell_key_value.specs.declared.KeyValue.{KeyValue}
-use Rattle.value_data.specs.Pieces.{Piece, piece, holds, judged, SEGMENT}
+use Rattle.value_data.specs.Pieces.{Piece, piece, joined, holds, judged, SEGMENT}
 use Rattle.value_data.specs.Data.{TOP-BIT, sizeOf, Source, field, pieces, whole, segmentsNeeded, inSegments, sourceOf}
 use Rattle.value_data.specs.Answers.{dataOf, dataBytes, DataAnswered}
 use Rattle.value_data.specs.declared.DataAnswer.the-variants.{Copied}
@@ -65,6 +65,14 @@ module _ (image : List ℕ) (base minor raw offset : ℕ) (old new : List ℕ) w
   pub record WasRefused (f : RoomRefusal) : Type 0 where
     pub untouched : new ≡ old
     pub no-room : f .number ≡ NO-ROOM → (f .position ≡ 0) × (f .places ≡ sizeOf raw) × (length old < sizeOf raw) × ((s : Source) × (dataOf image base minor raw offset ≡ success s))
+
+-- ---- data that is not resident: what was copied are the bytes of such pieces, one behind another
+
+abbrev pub FromPieces : Type 0
+FromPieces =
+    (image : List ℕ) (base minor raw offset : ℕ) (old new : List ℕ) (n : ℕ) → raw < TOP-BIT
+    → DataAnswered image base minor raw offset old (Copied n) new
+    → (qs : List Piece) × MadeOf image n qs × (take n new ≡ joined image qs)
 
 -- ---- resident data: of a record that was read, the image's own bytes from the record's position plus 12
 

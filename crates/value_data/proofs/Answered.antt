@@ -1,9 +1,9 @@
 -- What an answer says, of the answer itself: what was copied, and when it is refused for want of room. Assumes nothing.
-use Prim.{Unit, tt}
+use Prim.{tt}
 use mathlib.Core.Path.{_≡_, refl, sym, ap, _∙_}
 use mathlib.Core.List.{List, [], _∷_, _++_}
 use mathlib.Core.Bool.{Bool, true, false, cond, not}
-use Prim.Native.Nat.{ℕ, _+_, _-_, _≤_, _<_}
+use Prim.Native.Nat.{ℕ, _+_, _≤_, _<_}
 use native.Mathlib.Omega.{arith}
 use lib.Dec.{ltb, eqb}
 use lib.ListN.{length, take, drop}
@@ -20,7 +20,7 @@ use Rattle.cell_big_data.specs.Big.{isBigDataBlock}
 use Rattle.words.specs.Words.{word16}
 use Rattle.value_data.specs.Pieces.{Piece, piece, joined, sized, holds, judged}
 use Rattle.value_data.specs.Data.{TOP-BIT, isResident, sizeOf, Source, field, pieces, whole, segmentsNeeded, bigHead, bigIn, bigAt, listOf, listPiece, segmentsAt, fromList, inSegments, isBig, sourceOf}
-use Rattle.value_data.specs.Answers.{bytesFrom, dataOf, dataBytes, dataIn, DataAnswered}
+use Rattle.value_data.specs.Answers.{dataOf, dataBytes, dataIn, DataAnswered}
 use Rattle.value_data.specs.Whole.{MadeOf, WasCopied, WasRefused, FromPieces}
 use Rattle.value_data.specs.declared.DataAnswer.the-variants.{Copied, Refused}
 use Rattle.value_data.proofs.Whole.{both, made, row-length}

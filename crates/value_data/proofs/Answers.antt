@@ -3,7 +3,7 @@ use mathlib.Core.Path.{_≡_, refl, sym, ap, _∙_}
 use mathlib.Core.List.{List}
 use Prim.Native.Nat.{ℕ, _≤_, _<_}
 use lib.ListN.{length}
-use Rattle.words.specs.Paper.{Paper, success, refused, told, onSuccess}
+use Rattle.words.specs.Paper.{Paper, success, refused, told}
 use Rattle.words.specs.Refusals.{NO-ROOM}
 use Rattle.words.specs.Buffers.{needing, inRoom}
 use Rattle.words.specs.Writing.{withBytes}
@@ -12,7 +12,7 @@ use Rattle.words.proofs.Papers.{on-success, on-refused}
 use Rattle.words.proofs.Buffers.{room-full, room-fits, room-refused, answered-refused, answered-success}
 use Rattle.words.proofs.Writing.{with-front}
 use Rattle.value_data.specs.Data.{Source, sizeOf}
-use Rattle.value_data.specs.Answers.{bytesFrom, written, dataOf, dataBytes, dataIn, DataAnswered}
+use Rattle.value_data.specs.Answers.{bytesFrom, dataOf, dataBytes, dataIn, DataAnswered}
 use Rattle.value_data.specs.declared.DataAnswer.the-variants.{Copied, Refused}
 
 module _ (image : List ℕ) (base minor raw offset : ℕ) (old : List ℕ) where

@@ -1,10 +1,10 @@
 -- The two loops that copy: the bytes of a slice, and the bytes of segments. Assumes nothing.
 use mathlib.Core.Path.{_≡_, refl, sym, ap, _∙_}
 use mathlib.Core.List.{List, [], _∷_, _++_, append-nil}
-use Prim.Native.Nat.{ℕ, suc, _+_, _-_, _≤_, _<_, min}
+use Prim.Native.Nat.{ℕ, _+_, _-_, _≤_, _<_, min}
 use native.Mathlib.Numerals.{add-one}
 use native.Mathlib.Omega.{arith}
-use lib.ListN.{length, getD, take, drop, set, length-append, length-take, length-set}
+use lib.ListN.{length, getD, drop, set, length-append, length-take, length-set}
 use lib.Seq.{paste, paste-zero, paste-suc}
 use Rattle.words.specs.Writing.{withBytes}
 use Rattle.words.proofs.Writing.{with-length, with-paste, with-more, with-none}

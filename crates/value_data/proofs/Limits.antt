@@ -3,28 +3,27 @@ use mathlib.Core.Path.{_≡_, refl, sym, ap, _∙_}
 use mathlib.Core.List.{List}
 use mathlib.Core.Bool.{Bool, true, false, cond, not}
 use Prim.{tt}
-use Prim.Native.Nat.{ℕ, _+_, _-_, _*_, _^_, _%_, _≤_, _<_}
+use Prim.Native.Nat.{ℕ, _+_, _-_, _≤_}
 use native.Mathlib.Nat.{mod-eq-of-lt}
 use native.Mathlib.Decide.{ℕ-discrete, decLe}
 use native.Mathlib.Omega.{arith}
-use lib.Dec.{ltb, leb, eqb}
-use lib.ListN.{length, take, drop, length-drop}
+use lib.Dec.{ltb, eqb}
+use lib.ListN.{length, take, drop}
 use lib.Seq.{drop-drop, getD-drop, take-take}
 use borrow.Author.Tests.{lt-ltb, le-leb, lt-leb, eqb-true}
-use Rattle.words.specs.Words.{byteAt, little, word16, word32}
+use Rattle.words.specs.Words.{word16, word32}
 use Rattle.words.specs.Writing.{bytesOf}
-use Rattle.words.specs.Paper.{Paper, success, refused, by, checked}
+use Rattle.words.specs.Paper.{Paper, success, refused, by}
 use Rattle.words.specs.Refusals.{BAD-SIGN, CUT-SHORT, BAD-DATA}
 use Rattle.cell.specs.Cells.{Cell, held, tooSmall, cellAt}
 use Rattle.cell_big_data.specs.Big.{isBigDataBlock}
 use Rattle.words.proofs.Little.{Bytes, little-lt}
 use Rattle.words.proofs.Papers.{success-refused, same-success, checked-good, checked-bad}
 use Rattle.words.proofs.Writing.{bytes-first, bytes-there}
-use Rattle.cell_key_node.specs.Checks.{Exactly}
 use Rattle.cell_key_node.proofs.Checks.{exactly}
 use Rattle.cell_key_value.specs.Value.{valueFault, valueOf, valueAt}
 use Rattle.cell_key_value.specs.declared.KeyValue.{KeyValue}
-use Rattle.value_data.specs.Pieces.{piece, SEGMENT}
+use Rattle.value_data.specs.Pieces.{SEGMENT}
 use Rattle.value_data.specs.Data.{TOP-BIT, isResident, sizeOf, Source, segmentsNeeded, bigHead, bigIn, bigAt, inSegments, isBig, sourceOf}
 use Rattle.value_data.specs.Answers.{dataOf, dataBytes}
 use Rattle.value_data.specs.Whole.{Resident, TooLarge, Limits}

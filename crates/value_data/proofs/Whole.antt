@@ -1,19 +1,17 @@
 -- The sentences of specs/Whole.antt, of the answers. Assumes nothing.
 use Prim.{Unit, tt}
 use mathlib.Core.Path.{_≡_, refl, sym, ap, _∙_}
-use mathlib.Core.List.{List, [], _∷_, _++_}
+use mathlib.Core.List.{List, [], _∷_}
 use mathlib.Core.Bool.{Bool, true, false, cond}
-use Prim.Native.Nat.{ℕ, zero, suc, _+_, _-_, _*_, _≤_, _<_, min}
+use Prim.Native.Nat.{ℕ, zero, suc, _+_, _-_, _*_, _≤_, _<_}
 use native.Mathlib.Decide.{decLe}
 use native.Mathlib.Omega.{arith}
 use lib.Dec.{ltb, eqb}
 use borrow.Author.Tests.{eqb-true}
-use lib.ListN.{length, getD, take, drop, length-append, length-take, length-drop}
-use lib.Seq.{take-append-seam, drop-append-seam}
-use Rattle.words.specs.Paper.{Told, Paper, success, refused, by, onSuccess, andThen}
-use Rattle.words.specs.Refusals.{BAD-DATA, NO-ROOM}
-use Rattle.words.specs.Writing.{bytesOf}
-use Rattle.words.proofs.Papers.{success-refused, same-success, same-told}
+use lib.ListN.{length, drop, length-append, length-take, length-drop}
+use Rattle.words.specs.Paper.{Paper, success, refused, by, onSuccess, andThen}
+use Rattle.words.specs.Refusals.{BAD-DATA}
+use Rattle.words.proofs.Papers.{success-refused, same-success}
 use Rattle.words.proofs.Writing.{bytes-length}
 use Rattle.cell.specs.Cells.{Cell, held, tooSmall, magnitudeAt, cellAt}
 use Rattle.cell.specs.Exactly.{Reads}
@@ -23,9 +21,9 @@ use Rattle.cell.proofs.Exactly.{held-reads}
 use Rattle.cell_key_node.specs.ValueList.{upTo, entryOf}
 use Rattle.cell_key_node.proofs.Fill.{up-length}
 use Rattle.value_data.specs.Pieces.{Piece, piece, bytesIn, joined, sized, holds, judged, SEGMENT, segments}
-use Rattle.value_data.specs.Data.{sizeOf, Source, field, pieces, whole, segmentsNeeded, bigAt, listOf, listPiece, segmentsAt, fromList, inSegments, isBig, sourceOf}
+use Rattle.value_data.specs.Data.{Source, field, pieces, whole, segmentsNeeded, bigAt, listOf, listPiece, segmentsAt, fromList, inSegments, isBig, sourceOf}
 use Rattle.value_data.specs.Answers.{bytesFrom}
-use Rattle.value_data.specs.Whole.{total, at, FullButLast, Lies, MadeOf, FirstFault}
+use Rattle.value_data.specs.Whole.{total, at, Lies, MadeOf, FirstFault}
 use Rattle.value_data.proofs.Sizes.{needed-enough, needed-least}
 
 -- ---- one cell

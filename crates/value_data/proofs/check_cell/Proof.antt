@@ -1,5 +1,5 @@
 use Rattle.value_data.proofs.Pieces.{cell-verdict}
-use mathlib.Core.Path.{ap, sym, _∙_}
+use mathlib.Core.Path.{ap, _∙_}
 use Rattle.words.specs.Paper.{refused, told}
 use Rattle.words.specs.declared.Refusal.{Refusal}
 use borrow.Author.Needs.{needs}

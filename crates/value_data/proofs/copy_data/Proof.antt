@@ -1,7 +1,6 @@
 use native.Mathlib.Nat.{zero-add}
 use mathlib.Core.Path.{sym, ap, _∙_}
 use mathlib.Core.List.{List}
-use Prim.Native.Nat.{ℕ}
 use Rattle.words.specs.Writing.{withBytes}
 use Rattle.words.proofs.Writing.{with-none, put-true, put-written}
 use Rattle.value_data.specs.Pieces.{Piece, joined}

@@ -1,6 +1,4 @@
 use Prim.Native.Nat.{_-_}
-use mathlib.Core.List.{List}
-use Prim.Native.Nat.{ℕ}
 use Rattle.cell_key_node.specs.ValueList.{entryOf}
 use Rattle.value_data.proofs.Copies.{Filling, filling-start, filling-fits, filling-step, filling-done}
 use borrow.Author.Needs.{needs}

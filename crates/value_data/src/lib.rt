@@ -3,10 +3,11 @@
 ghost use Prim.Native.Nat.{_+_, _≤_, min};
 ghost use mathlib.Core.Path.{_≡_};
 ghost use lib.ListN.{length};
+ghost use Rattle.words.specs.Refusals.{BAD-DATA};
 ghost use Rattle.words.specs.Paper.{verdictPaper};
 ghost use Rattle.words.specs.Writing.{withBytes};
 ghost use Rattle.cell_key_node.specs.ValueList.{upTo, entryOf};
-ghost use Rattle.value_data.specs.Pieces.{piece, bytesIn, joined, holds, judged, segments};
+ghost use Rattle.value_data.specs.Pieces.{piece, bytesIn, joined, holds, judged, SEGMENT, segments};
 ghost use Rattle.value_data.specs.Data.{segmentsNeeded, bigHead, bigAt, fromList, inSegments, isBig, sourceOf};
 ghost use Rattle.value_data.specs.Answers.{bytesFrom, sourceAt, findPaper, DataAnswered};
 use cell::CellAnswer;
@@ -51,7 +52,7 @@ pub enum DataAnswer {
 
 // A refusal by BAD DATA, which has no position.
 fn bad_data() -> Refusal
-    ensures { λ r. ⌜ r ≡ record { number = 17; position = 0 } ⌝ }
+    ensures { λ r. ⌜ r ≡ record { number = BAD-DATA; position = 0 } ⌝ }
 {
     Refusal {
         number: words::BAD_DATA,
@@ -76,7 +77,7 @@ fn check_cell(image: &[u8], position: usize, bytes: u32) -> Verdict
 
 // The bytes of the next segment, where so many are left: a segment's, or the rest.
 fn next_bytes(left: u32) -> u32
-    ensures { λ r. ⌜ r ≡ min left 16344 ⌝ }
+    ensures { λ r. ⌜ r ≡ min left SEGMENT ⌝ }
 {
     if left < SEGMENT { left } else { SEGMENT }
 }

@@ -7,6 +7,7 @@ and not from the Rattle.
 reads a stream of cases and writes one whole line for each (compare/README.md). Each test stands in the order of the paper's
 sentences, which are quoted."""
 import functools
+import itertools
 import operator
 import sys
 
@@ -392,42 +393,39 @@ def big_data(image, position, segments):
     return unsigned(image, position + 8, 4)
 
 
-def data_of(image, base, minor, raw, offset):
-    """A value's data, and its refusals without 9."""
+def data_parts(image, base, minor, raw, offset):
+    """Where a value's data stands: parts of bytes, each with its start and its length. Its refusals without 9."""
     # "with the top bit of the data size set, the data is the first bytes of the offset field, at most 4"
     if raw >= 2 ** 31:
         size = raw - 2 ** 31
         # "also 17 for a resident size above 4"
         if size > 4:
             raise Refused(BAD_DATA)
-        return offset.to_bytes(4, "little")[:size]
+        return [(offset.to_bytes(4, "little"), 0, size)]
     # "a data size of 0 gives no bytes and no cell is read"
     if raw == 0:
-        return b""
+        return []
     # "When the minor version is above 3 and the size above 16,344 it is a `db` cell"; "Otherwise it is in a cell after the size word"
     if not (minor > 3 and raw > MOST_IN_ONE):
-        at = data_cell(image, offset + base, 4 + raw)
-        return image[at + 4:at + 4 + raw]
+        return [(image, data_cell(image, offset + base, 4 + raw) + 4, raw)]
     # "every segment but the last giving 16,344 bytes, the segments exactly as many as needed"
     lengths = [MOST_IN_ONE] * (raw // MOST_IN_ONE) + ([raw % MOST_IN_ONE] if raw % MOST_IN_ONE else [])
     listed = big_data(image, offset + base, len(lengths))
     # "cell by cell in reading order": the list, then each segment
     listed = data_cell(image, listed + base, 4 + 4 * len(lengths))
-    data = b""
-    for i, length in enumerate(lengths):
-        at = data_cell(image, unsigned(image, listed + 4 + 4 * i, 4) + base, 4 + length)
-        data += image[at + 4:at + 4 + length]
-    return data
+    return [(image, data_cell(image, unsigned(image, listed + 4 + 4 * i, 4) + base, 4 + length) + 4, length)
+            for i, length in enumerate(lengths)]
 
 
 def value_data(image, base, minor, raw, offset, out):
-    data = data_of(image, base, minor, raw, offset)
+    parts = data_parts(image, base, minor, raw, offset)
+    size = sum(length for _, _, length in parts)
     # "last 9"; "NO ROOM also returns the places needed"
-    if len(data) > len(out):
-        raise Refused(NO_ROOM, places=len(data))
+    if size > len(out):
+        raise Refused(NO_ROOM, places=size)
     # "Copy a value's data into a lent buffer"; "the places after the last one written keep their old contents"
-    out[:len(data)] = data
-    return len(data)
+    out[:size] = b"".join(source[at:at + length] for source, at, length in parts)
+    return size
 
 
 # ---- a number into a lent buffer: "All numbers are little-endian."; where it does not fit, nothing changes
@@ -451,11 +449,7 @@ def hexed(part):
 
 def sums(row):
     """The sum of a row and the sum of its running sums, both in 64 bits."""
-    plain = running = 0
-    for x in row:
-        plain += x
-        running += plain
-    return [plain % 2 ** 64, running % 2 ** 64]
+    return [sum(row) % 2 ** 64, sum(itertools.accumulate(row)) % 2 ** 64]
 
 
 def summed(part):

@@ -363,13 +363,31 @@ fn type_length(raw: u32) -> usize {
     }
 }
 
+/// A value record of the case's words, of type REG_BIN.
+fn made_up(c: &Case) -> [u8; 24] {
+    let mut made = [0u8; 24];
+    for (at, x) in [(0, -24i32 as u32), (8, c.a), (12, c.b), (16, 3), (20, 1)] { made[at..at + 4].copy_from_slice(&x.to_le_bytes()); }
+    made[4..6].copy_from_slice(b"vk");
+    made
+}
+
+/// What `read_value_bytes` hands on: the bytes, the first and the last ones in hex, and how many log lines.
+fn bytes_found(c: &Case, file: &mut FileInfo) -> String {
+    file.hbin_offset_absolute = c.c as usize;
+    let (made, at) = (made_up(c), if c.tag == 21 { 0 } else { c.a as usize });
+    let bytes = if c.tag == 21 { Some(&made[..]) } else { file.buffer.get(at..) };
+    let Some(Ok((_, mut v))) = bytes.map(|s| CellKeyValue::from_bytes(s, at, None, false)) else { return "error".into() };
+    v.read_value_bytes(file, &mut State::default());
+    let data = v.detail.value_bytes().unwrap_or_default();
+    let shown = if data.len() <= 16 { hex(&data) } else { format!("{} .. {}", hex(&data[..4]), hex(&data[data.len() - 4..])) };
+    format!("{} bytes {shown}, {} log lines", data.len(), v.logs.get().map_or(0, |l| l.len()))
+}
+
 /// Not among what 01 compares: `read_value_bytes` of a record, for tag 21 of one that is made up of the case's words, of type REG_BIN.
 /// `error` where it gives no bytes and a log line. Its bytes are laid into a buffer as the case has it.
 fn data(c: &Case, file: &mut FileInfo) -> String {
     file.hbin_offset_absolute = c.c as usize;
-    let mut made = [0u8; 24];
-    for (at, x) in [(0, -24i32 as u32), (8, c.a), (12, c.b), (16, 3), (20, 1)] { made[at..at + 4].copy_from_slice(&x.to_le_bytes()); }
-    made[4..6].copy_from_slice(b"vk");
+    let made = made_up(c);
     let (at, mut why) = if c.tag == 21 { (0, None) } else {
         let record = value(&Case { tag: 7, name: vec![], ..*c }, file, Form::Converted);
         (c.a as usize, record.strip_prefix("- ").map(|s| s.split(' ').next().unwrap().to_string()))
@@ -404,6 +422,7 @@ fn data(c: &Case, file: &mut FileInfo) -> String {
 
 pub fn answer(c: &Case, file: &mut FileInfo, form: Form) -> String {
     if form == Form::Callers && matches!(c.tag, 4 | 5) { return callers(c, file); }
+    if form == Form::Callers && matches!(c.tag, 21 | 22) { return bytes_found(c, file); }
     let told = catch_unwind(AssertUnwindSafe(|| match c.tag {
         1 => match BaseBlockBase::calculate_checksum(&file.buffer) { Ok(x) => format!("ok {x}"), Err(_) => "error".into() },
         2 => base_block(&file.buffer, form),

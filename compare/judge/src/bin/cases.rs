@@ -1100,7 +1100,12 @@ fn data_edges(o: &mut Out<impl Write>, more: bool) {
     }
     // sizes that need a number of segments that 16 bits do not have
     for size in [65535 * SEGMENT - 1, 65535 * SEGMENT, 65535 * SEGMENT + 1, 65536 * SEGMENT, 65536 * SEGMENT + 1, 0x7fffffff, 0x40000000] {
-        for count in [0u16, 1, 65534, 65535, needed(size)] { o.patch(DB + 6, &count.to_le_bytes()); o.data(size, offset(DB), BASE, 4, &[8]); }
+        // with a list that is outside, so that a number taken as right is seen
+        for list in [LIST, END + 1] { for count in [0u16, 1, 65534, 65535, needed(size)] {
+            o.patch(DB + 6, &count.to_le_bytes());
+            o.patch(DB + 8, &offset(list).to_le_bytes());
+            o.data(size, offset(DB), BASE, 4, &[8]);
+        } }
         o.data(size, offset(SEGMENTS[0]), BASE, 3, &[8]);
     }
     o.image(&m);

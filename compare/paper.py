@@ -1,15 +1,21 @@
 #!/usr/bin/env python3
-"""Document 01 read as a program, and nothing else: written from the paper, not from the Rust and not from the Rattle.
+"""Document 01, and what has landed of document 02, read as a program, and nothing else: written from the papers, not from the Rust
+and not from the Rattle.
 
     compare/paper.py < CASES > LINES
 
 reads a stream of cases and writes one whole line for each (compare/README.md). Each test stands in the order of the paper's
 sentences, which are quoted."""
+import functools
+import itertools
+import operator
 import sys
 
 # "Refusal numbers"
 SHORT, OUTSIDE, BAD_SIZE, BAD_SIGN, BAD_NAME, NO_LIST, TOO_MANY, CUT_SHORT, NO_ROOM, BAD_BIN, BAD_CELL = range(1, 12)
 TOO_LARGE, BAD_BUDGET, TOO_DEEP, OUT_OF_STEPS, NOT_FOUND = range(12, 17)
+# document 02, order 1
+BAD_DATA = 17
 
 MOST_COUNT = 1_048_576
 MOST_BUDGET = 65_536
@@ -354,6 +360,74 @@ def cell_at(image, position, least):
     return ["small" if abs(word) < least else "held", abs(word), int(word < 0)]
 
 
+# ---- document 02, order 1: "Value data, whole"
+
+MOST_IN_ONE = 16_344  # bytes of a value's data in a cell of its own, and of a segment
+
+
+def data_cell(image, position, least):
+    """A cell of the data, "cell by cell in reading order: 2, 8 .. 17 BAD DATA for a cell too small". Its position."""
+    held, _, _ = cell_at(image, position, least)
+    # 17: position 0, "every number above 16"
+    if held == "small":
+        raise Refused(BAD_DATA)
+    return position
+
+
+def big_data(image, position, segments):
+    """The `db` cell at a position. Gives the offset of the segment list."""
+    # "Refusals, cell by cell in reading order: 2"
+    if position > len(image):
+        raise Refused(OUTSIDE, position)
+    left = len(image) - position
+    # "8 (.. for `db`, 12 bytes not there, or a cell past the image)"
+    if left < 12 or abs(signed(image, position)) > left:
+        raise Refused(CUT_SHORT, position)
+    # "4 for `db`"
+    if image[position + 4:position + 6] != b"db":
+        raise Refused(BAD_SIGN, position)
+    # "17 BAD DATA for a cell too small or, on the `db` cell, a wrong segment count"; "number of segments at 6"
+    if abs(signed(image, position)) < 12 or unsigned(image, position + 6, 2) != segments:
+        raise Refused(BAD_DATA)
+    # "offset of the segment list at 8"
+    return unsigned(image, position + 8, 4)
+
+
+def data_parts(image, base, minor, raw, offset):
+    """Where a value's data stands: parts of bytes, each with its start and its length. Its refusals without 9."""
+    # "with the top bit of the data size set, the data is the first bytes of the offset field, at most 4"
+    if raw >= 2 ** 31:
+        size = raw - 2 ** 31
+        # "also 17 for a resident size above 4"
+        if size > 4:
+            raise Refused(BAD_DATA)
+        return [(offset.to_bytes(4, "little"), 0, size)]
+    # "a data size of 0 gives no bytes and no cell is read"
+    if raw == 0:
+        return []
+    # "When the minor version is above 3 and the size above 16,344 it is a `db` cell"; "Otherwise it is in a cell after the size word"
+    if not (minor > 3 and raw > MOST_IN_ONE):
+        return [(image, data_cell(image, offset + base, 4 + raw) + 4, raw)]
+    # "every segment but the last giving 16,344 bytes, the segments exactly as many as needed"
+    lengths = [MOST_IN_ONE] * (raw // MOST_IN_ONE) + ([raw % MOST_IN_ONE] if raw % MOST_IN_ONE else [])
+    listed = big_data(image, offset + base, len(lengths))
+    # "cell by cell in reading order": the list, then each segment
+    listed = data_cell(image, listed + base, 4 + 4 * len(lengths))
+    return [(image, data_cell(image, unsigned(image, listed + 4 + 4 * i, 4) + base, 4 + length) + 4, length)
+            for i, length in enumerate(lengths)]
+
+
+def value_data(image, base, minor, raw, offset, out):
+    parts = data_parts(image, base, minor, raw, offset)
+    size = sum(length for _, _, length in parts)
+    # "last 9"; "NO ROOM also returns the places needed"
+    if size > len(out):
+        raise Refused(NO_ROOM, places=size)
+    # "Copy a value's data into a lent buffer"; "the places after the last one written keep their old contents"
+    out[:size] = b"".join(source[at:at + length] for source, at, length in parts)
+    return size
+
+
 # ---- a number into a lent buffer: "All numbers are little-endian."; where it does not fit, nothing changes
 
 def put(out, at, width, number):
@@ -365,7 +439,7 @@ def put(out, at, width, number):
 
 # ---- the stream and the lines (compare/README.md)
 
-IMAGE_MOST, NAME_MOST, ROOM_MOST, BYTES_MOST = 524_288, 65_536, 262_144, 32
+IMAGE_MOST, NAME_MOST, ROOM_MOST, BYTES_MOST, DATA_MOST = 524_288, 65_536, 262_144, 32, 65_536
 PATCH, LENGTH = 100, 101
 
 
@@ -375,11 +449,7 @@ def hexed(part):
 
 def sums(row):
     """The sum of a row and the sum of its running sums, both in 64 bits."""
-    plain = running = 0
-    for x in row:
-        plain += x
-        running += plain
-    return [plain % 2 ** 64, running % 2 ** 64]
+    return [sum(row) % 2 ** 64, sum(itertools.accumulate(row)) % 2 ** 64]
 
 
 def summed(part):
@@ -387,6 +457,7 @@ def summed(part):
 
 
 pattern = [(i + 1) * 0x9E3779B1 % 2 ** 32 for i in range(ROOM_MOST)]
+bytes_pattern = bytes(x % 256 for x in pattern[:DATA_MOST])
 
 
 def untouched(out, written):
@@ -394,6 +465,12 @@ def untouched(out, written):
     if out[written:] == pattern[written:len(out)]:
         return len(out) - written
     return sum(out[i] == pattern[i] for i in range(written, len(out)))
+
+
+@functools.lru_cache(512)
+def whole_buffer(out):
+    """A buffer of bytes: its row, and how many of its bytes are as they were."""
+    return summed(out) + [sum(map(operator.eq, out, bytes_pattern))]
 
 
 def with_part(image, position, read, parts):
@@ -429,6 +506,20 @@ def answer(tag, a, b, c, d, e, name, image):
     as_signed = lambda x: x - 2 ** 32 if x >= 2 ** 31 else x
     if tag in (13, 14, 15, 20):
         return by_record(tag, a, c, d, e, name, image)
+    if tag == 22:
+        try:
+            fields, _ = value_record(image, a)
+        except Refused as r:
+            return ["refused", r.number, r.position]
+        # "data size 8, data offset 12"
+        return answer(21, fields[3], fields[4], c, d, e, name, image)
+    if tag == 21:
+        out = bytearray(bytes_pattern[:e])
+        try:
+            said = ["ok", value_data(image, c, d, a, b, out)]
+        except Refused as r:
+            said = ["refused", r.number, r.position, r.places]
+        return said + whole_buffer(bytes(out))
     if tag == 4:
         out = pattern[:d]
         try:
@@ -483,10 +574,9 @@ def answer(tag, a, b, c, d, e, name, image):
         if tag == 18:
             return ["ok"] + cell_at(image, a, b)
         if tag == 19:
-            before = bytes(x % 256 for x in pattern[:e])
-            out = bytearray(before)
+            out = bytearray(bytes_pattern[:e])
             written = put(out, b, a, c + 2 ** 32 * d)
-            return ["ok", int(written)] + summed(out) + [sum(x == y for x, y in zip(out, before))]
+            return ["ok", int(written)] + whole_buffer(bytes(out))
         return ["none"]
     except Refused as r:
         return ["refused", r.number, r.position]
@@ -536,7 +626,8 @@ def cases(read):
             length = words[0]
             image = None
         else:
-            if tag in (4, 13) and words[3] > ROOM_MOST or tag in (5, 14, 16) and words[4] > ROOM_MOST or tag == 19 and words[4] > BYTES_MOST:
+            if (tag in (4, 13) and words[3] > ROOM_MOST or tag in (5, 14, 16) and words[4] > ROOM_MOST
+                    or tag == 19 and words[4] > BYTES_MOST or tag in (21, 22) and words[4] > DATA_MOST):
                 bad("room")
             if image is None:
                 image = bytes(kept[:length])

@@ -8,11 +8,12 @@ import sys
 NAMES = {1: "checksum", 2: "base block", 3: "`is_big_data_block`", 4: "value list", 5: "subkey walk", 6: "key record", 7: "value record",
          8: "lookup", 9: "name hash", 10: "bins and cells", 11: "one list", 12: "words", 13: "a record's value list",
          14: "a record's subkeys", 15: "a record's lookup", 16: "a leaf list", 17: "a walk's counts",
-         18: "a cell", 19: "a number written", 20: "a record's counts"}
-# what document 01 lets each function be refused by
+         18: "a cell", 19: "a number written", 20: "a record's counts", 21: "a value's data", 22: "a record's value data"}
+# what documents 01 and 02 let each function be refused by
 REFUSALS = {1: [1], 2: [1, 4], 4: [2, 6, 7, 8, 9], 5: [2, 4, 7, 8, 9, 13, 14, 15], 6: [1, 2, 3, 4, 5], 7: [1, 2, 3, 4, 5],
             8: [1, 2, 3, 4, 5, 6, 7, 8, 16], 9: [5], 10: [8, 10, 11], 11: [2, 4, 8], 16: [2, 4, 8, 9],
-            17: [2, 4, 7, 8, 13, 14, 15], 18: [2, 8], 20: [1, 2, 3, 4, 7, 8, 13, 15]}
+            17: [2, 4, 7, 8, 13, 14, 15], 18: [2, 8], 20: [1, 2, 3, 4, 7, 8, 13, 15],
+            21: [2, 4, 8, 9, 17], 22: [1, 2, 3, 4, 5, 8, 9, 17]}
 
 
 def counted(path):

@@ -320,8 +320,109 @@ fn bin(c: &Case, file: &FileInfo) -> String {
     }
 }
 
+/// A look ahead of value data, at the input alone: the bytes are there in cells that hold them (Right); some are not there or the
+/// resident size is above 4, where the Rust gives no bytes and a log line (Fault); or why the case is not compared.
+#[derive(PartialEq)]
+enum Held { Right, Fault, Why(&'static str) }
+fn held(image: &[u8], base: u32, minor: u32, raw: u32, offset: u32) -> Held {
+    const SEGMENT: usize = 16344;
+    if raw >> 31 == 1 { return if raw & 0x7fff_ffff > 4 { Held::Fault } else { Held::Right }; }
+    let there = |at: usize, n: usize| at + n <= image.len();
+    let magnitude = |at: usize| (u32_at(image, at).unwrap() as i32).unsigned_abs() as usize;
+    let holds = |at: usize, n: usize| magnitude(at) >= n && there(at, magnitude(at));
+    // a cell whose first n bytes are there: does its size word say so?
+    let cell = |at: usize, n: usize| if !there(at, n) { Held::Fault } else if holds(at, n) { Held::Right } else { Held::Why("cell") };
+    let (at, size, base) = (offset as usize + base as usize, raw as usize, base as usize);
+    if size == 0 { return if there(at, 4) { Held::Right } else { Held::Why("nothing") }; }
+    let letters = image.get(at + 4..at + 6) == Some(&b"db"[..]);
+    if minor <= 3 || size <= SEGMENT { return if size > SEGMENT && letters { Held::Why("version") } else { cell(at, 4 + size) }; }
+    if !there(at, 12) { return Held::Fault; }
+    if !letters { return if there(at, 4 + size) { Held::Why("letters") } else { Held::Fault }; }
+    if cell(at, 12) != Held::Right { return Held::Why("cell"); }
+    let n = size.div_ceil(SEGMENT);
+    if u16_at(image, at + 6).unwrap() as usize != n { return Held::Why("count"); }
+    let list = u32_at(image, at + 8).unwrap() as usize + base;
+    let told = cell(list, 4 + 4 * n);
+    if told != Held::Right { return told; }
+    for i in 0..n {
+        let (at, part) = (u32_at(image, list + 4 + 4 * i).unwrap() as usize + base, SEGMENT.min(size - SEGMENT * i));
+        // the Rust takes a segment's size word as a limit of its bytes, the size word counted in
+        if !there(at, 4) || magnitude(at) >= part && !there(at, 4 + part) { return Held::Fault; }
+        if !holds(at, 4 + part) { return Held::Why("cell"); }
+    }
+    Held::Right
+}
+/// The bytes of a type that has a fixed number of them.
+fn type_length(raw: u32) -> usize {
+    match raw & 0xfff {
+        0x101 => 1,
+        0x102 | 0x103 => 2,
+        4 | 5 | 0x104 | 0x105 => 4,
+        0xb | 0x10 | 0x106 | 0x107 => 8,
+        _ => usize::MAX,
+    }
+}
+
+/// A value record of the case's words, of type REG_BIN.
+fn made_up(c: &Case) -> [u8; 24] {
+    let mut made = [0u8; 24];
+    for (at, x) in [(0, -24i32 as u32), (8, c.a), (12, c.b), (16, 3), (20, 1)] { made[at..at + 4].copy_from_slice(&x.to_le_bytes()); }
+    made[4..6].copy_from_slice(b"vk");
+    made
+}
+
+/// What `read_value_bytes` hands on: the bytes, the first and the last ones in hex, and how many log lines.
+fn bytes_found(c: &Case, file: &mut FileInfo) -> String {
+    file.hbin_offset_absolute = c.c as usize;
+    let (made, at) = (made_up(c), if c.tag == 21 { 0 } else { c.a as usize });
+    let bytes = if c.tag == 21 { Some(&made[..]) } else { file.buffer.get(at..) };
+    let Some(Ok((_, mut v))) = bytes.map(|s| CellKeyValue::from_bytes(s, at, None, false)) else { return "error".into() };
+    v.read_value_bytes(file, &mut State::default());
+    let data = v.detail.value_bytes().unwrap_or_default();
+    let shown = if data.len() <= 16 { hex(&data) } else { format!("{} .. {}", hex(&data[..4]), hex(&data[data.len() - 4..])) };
+    format!("{} bytes {shown}, {} log lines", data.len(), v.logs.get().map_or(0, |l| l.len()))
+}
+
+/// Not among what 01 compares: `read_value_bytes` of a record, for tag 21 of one that is made up of the case's words, of type REG_BIN.
+/// `error` where it gives no bytes and a log line. Its bytes are laid into a buffer as the case has it.
+fn data(c: &Case, file: &mut FileInfo) -> String {
+    file.hbin_offset_absolute = c.c as usize;
+    let made = made_up(c);
+    let (at, mut why) = if c.tag == 21 { (0, None) } else {
+        let record = value(&Case { tag: 7, name: vec![], ..*c }, file, Form::Converted);
+        (c.a as usize, record.strip_prefix("- ").map(|s| s.split(' ').next().unwrap().to_string()))
+    };
+    let bytes = if c.tag == 21 { Some(&made[..]) } else { file.buffer.get(at..) };
+    let told = if let Some(Ok((_, mut v))) = bytes.map(|s| CellKeyValue::from_bytes(s, at, None, false)) {
+        let lines = |v: &CellKeyValue| v.logs.get().map_or(0, |l| l.len());
+        let before = lines(&v);
+        let (raw, offset) = (v.detail.data_size_raw(), v.detail.data_offset_relative());
+        // the Rust gathers all segments, whatever the room
+        let cell = file.buffer.get(offset as usize + c.c as usize..).unwrap_or(&[]);
+        if raw >> 31 == 0 && raw > 1 << 20 && CellBigData::is_big_data_block(cell) { return "- big".into(); }
+        v.read_value_bytes(file, &mut State::default());
+        let (failed, data) = (lines(&v) > before, v.detail.value_bytes().unwrap_or_default());
+        let ahead = held(&file.buffer, c.c, c.d, raw, offset);
+        if failed && !data.is_empty() || ahead == Held::Right && failed || ahead == Held::Fault && !failed { fault("value data"); }
+        let size = (raw & 0x7fff_ffff) as usize;
+        let other = match ahead {
+            Held::Why(x) => Some(x),
+            Held::Right if size > type_length(v.detail.data_type_raw()) => Some("type"),
+            Held::Right if size > c.e as usize => Some("room"),
+            _ => None,
+        };
+        why = why.or(other.map(|x| x.to_string()));
+        let mut out: Vec<u8> = (0..c.e).map(|i| (i + 1).wrapping_mul(0x9e3779b1) as u8).collect();
+        if failed { "error".into() }
+        else if data.len() > out.len() { format!("ok {}", data.len()) }
+        else { out[..data.len()].copy_from_slice(&data); format!("ok {} {}", data.len(), part(&out)) }
+    } else { "error".into() };
+    match why { Some(w) => format!("- {w} {told}"), None => told }
+}
+
 pub fn answer(c: &Case, file: &mut FileInfo, form: Form) -> String {
     if form == Form::Callers && matches!(c.tag, 4 | 5) { return callers(c, file); }
+    if form == Form::Callers && matches!(c.tag, 21 | 22) { return bytes_found(c, file); }
     let told = catch_unwind(AssertUnwindSafe(|| match c.tag {
         1 => match BaseBlockBase::calculate_checksum(&file.buffer) { Ok(x) => format!("ok {x}"), Err(_) => "error".into() },
         2 => base_block(&file.buffer, form),
@@ -333,6 +434,7 @@ pub fn answer(c: &Case, file: &mut FileInfo, form: Form) -> String {
         8 => lookup(c, file),
         10 => bin(c, file),
         11 => one_list(c, file),
+        21 | 22 => data(c, file),
         _ => "- none".into(),
     }));
     told.unwrap_or_else(|_| "panic".into())

@@ -20,6 +20,7 @@ fn fields(tag: &str) -> &'static str {
         "7" => "nnnnnnvV",
         "8" => "nnnnnnnn",
         "11" => "nxn",
+        "21" | "22" => "nnnnx",
         _ => "n",
     }
 }
@@ -89,6 +90,8 @@ fn function(tag: u32) -> &'static str {
         18 => "cell",
         19 => "number written",
         20 => "record's counts",
+        21 => "value data *",
+        22 => "record's data *",
         _ => "?",
     }
 }

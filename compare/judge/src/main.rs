@@ -2,7 +2,7 @@
 //!   judge answers < CASES > RUST        the Rust's answers, times, ids and texts as the Rust converts them
 //!   judge undone < CASES > RUST         the same with these conversions undone, or `- lossy` where they cannot be
 //!   judge unguarded < CASES             the walk with no look ahead: an `ri` that leads back to itself ends the process
-//!   judge callers < CASES               what the Rust's own callers make of a value list or a walk: results, and log lines
+//!   judge callers < CASES               what the Rust's own callers make of a value list, a walk or value data: results, and log lines
 //!   judge compare RUST PAPER RATTLE     holds the Rust's lines and paper.py's to the Rattle program's; writes counts
 //!   judge table < COUNTS                adds up such counts and prints the table; exit 1 where a compared case differs
 #![allow(dead_code, unused_imports, unexpected_cfgs, macro_expanded_macro_exports_accessed_by_absolute_paths)]

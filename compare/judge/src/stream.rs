@@ -5,6 +5,7 @@ use std::io::{BufReader, Read};
 pub const IMAGE_MOST: usize = 524_288;
 pub const NAME_MOST: usize = 65_536;
 pub const ROOM_MOST: usize = 262_144;
+pub const DATA_MOST: usize = 65_536;
 const PATCH: u8 = 100;
 const LENGTH: u8 = 101;
 
@@ -74,7 +75,8 @@ impl<R: Read> Cases<R> {
                 PATCH => { let v = self.name.clone(); self.put(a as usize, &v) }
                 LENGTH => self.length(a as usize),
                 tag => {
-                    if matches!(tag, 4 | 13) && d as usize > ROOM_MOST || matches!(tag, 5 | 14 | 16) && e as usize > ROOM_MOST { bad("room"); }
+                    if matches!(tag, 4 | 13) && d as usize > ROOM_MOST || matches!(tag, 5 | 14 | 16) && e as usize > ROOM_MOST
+                        || matches!(tag, 21 | 22) && e as usize > DATA_MOST { bad("room"); }
                     return Some(Case { tag, a, b, c, d, e, name: if tag == 8 { self.name.clone() } else { vec![] } });
                 }
             }

@@ -38,8 +38,11 @@ impl Rng {
 
 const IMAGE_MOST: usize = 524_288;
 /// one more than the greatest tag of a case
-const TAGS: usize = 21;
+const TAGS: usize = 23;
 const ENOUGH: u32 = 1024;
+/// the greatest room for a value's data, and the bytes of it in one cell or one segment
+const DATA_MOST: u32 = 65_536;
+const SEGMENT: u32 = 16_344;
 const BUDGET: u32 = 65536;
 
 /// Writes a stream. What a case needs of words, name and image is held against what the stream's reader has by then, and only
@@ -60,12 +63,15 @@ struct Out<W: Write> {
     taken: usize,
     /// the words of the last walk whose counts were asked for, while the image stays
     counted: Option<[u32; 4]>,
+    /// of the value records of hives, the data of one in so many is asked for
+    data_one_in: usize,
+    records: usize,
     cases: u64,
 }
 impl<W: Write> Out<W> {
     fn new(to: W, one_in: [u64; TAGS], seed: u64) -> Self {
         let none = vec![0; IMAGE_MOST];
-        Out { to, words: [0; 5], name: vec![], has: none.clone(), has_length: 0, want: none, want_length: 0, changed: 0..0, one_in, pick: Rng(seed), marked: None, taken: 0, counted: None, cases: 0 }
+        Out { to, words: [0; 5], name: vec![], has: none.clone(), has_length: 0, want: none, want_length: 0, changed: 0..0, one_in, pick: Rng(seed), marked: None, taken: 0, counted: None, data_one_in: 1, records: 0, cases: 0 }
     }
     fn put(&mut self, tag: u8, words: [u32; 5], name: Option<&[u8]>, image: Option<&[u8]>) {
         let mut mask = 0u8;
@@ -155,6 +161,15 @@ impl<W: Write> Out<W> {
     fn leaf(&mut self, at: u64, base: u32, room: u32) {
         let budget = self.words[3];
         self.case(16, &[at as u32, (at >> 32) as u32, base, budget, room], None);
+    }
+    /// Value data by a record's numbers, for each of some rooms.
+    fn data(&mut self, raw: u32, offset: u32, base: u32, minor: u32, rooms: &[u32]) {
+        for &room in rooms { self.case(21, &[raw, offset, base, minor, room.min(DATA_MOST)], None); }
+    }
+    /// Value data of the record at a position.
+    fn data_of(&mut self, at: u32, base: u32, minor: u32, rooms: &[u32]) {
+        let b = self.words[1];
+        for &room in rooms { self.case(22, &[at, b, base, minor, room.min(DATA_MOST)], None); }
     }
     fn lookup(&mut self, count: u32, offset: u32, base: u32, name: &[u8]) { self.named(8, &[count, offset, base], name); }
     fn named(&mut self, tag: u8, words: &[u32], name: &[u8]) {
@@ -761,17 +776,35 @@ fn hive(o: &mut Out<impl Write>, m: &[u8], few: bool) {
     }
 }
 
+/// The data of every value record that can be seen in a hive: for the minor versions on both sides and the hive's own, with rooms
+/// that are exact, one fewer, none and larger.
+fn hive_data(o: &mut Out<impl Write>, m: &[u8], few: bool) {
+    let own = if m.len() >= 28 { get32(m, 24) } else { 5 };
+    for p in (4096..m.len().saturating_sub(24)).step_by(8) {
+        if &m[p + 4..p + 6] != b"vk" { continue; }
+        o.records += 1;
+        if o.records % o.data_one_in != 0 { continue; }
+        let n = get32(m, p + 8) & 0x7fffffff;
+        let rooms = [n, n.saturating_sub(1), 0, n.saturating_add(5)];
+        if few { o.data_of(p as u32, 4096, own, &rooms[..2]); continue; }
+        for minor in [3, 4, 5].into_iter().chain((!(3..6).contains(&own)).then_some(own)) { o.data_of(p as u32, 4096, minor, &rooms); }
+        o.data(get32(m, p + 8), get32(m, p + 12), 4096, own, &rooms);
+    }
+}
+
 fn hives(o: &mut Out<impl Write>, r: &mut Rng, files: &[String], cuts: usize, damaged: usize) {
     for f in files {
         let whole = std::fs::read(f).expect(f);
         let m = &whole[..whole.len().min(IMAGE_MOST)];
         o.image(m);
         hive(o, m, false);
+        hive_data(o, m, false);
         // cuts
         for _ in 0..cuts {
             let n = if r.chance(3) { r.range(0, m.len()) } else { r.range(4096.min(m.len()), m.len()) };
             o.length(n);
             hive(o, &m[..n], true);
+            hive_data(o, &m[..n], true);
         }
         o.length(m.len());
         // damage: one to six bytes, most of them inside the part in use
@@ -785,6 +818,7 @@ fn hives(o: &mut Out<impl Write>, r: &mut Rng, files: &[String], cuts: usize, da
                 o.patch(at, &[x]);
             }
             hive(o, &d, true);
+            hive_data(o, &d, true);
             o.image(m);
         }
     }
@@ -808,10 +842,13 @@ fn stored(o: &mut Out<impl Write>, seed: u64, files: &[String], rust: bool) {
     o.one_in = whole(shares[1]);
     rounds(o, &mut Rng(seed), 20, SMALL);
     o.one_in = whole(shares[2]);
+    o.data_one_in = 5;
     hives(o, &mut Rng(seed), files, 1, 3);
     cells(o, &mut Rng(seed), 200);
     puts(o, &mut Rng(seed), 200);
     leaves(o, &mut Rng(seed), 20, SMALL.0);
+    data_edges(o, false);
+    datas(o, &mut Rng(seed), 40);
 }
 
 // ---- cells, and numbers written into a buffer: boundaries, and `random` others
@@ -890,6 +927,344 @@ fn leaves(o: &mut Out<impl Write>, r: &mut Rng, random: u64, most: usize) {
             let at = p as u64 + r.below(9);
             o.leaf(at, base as u32, ENOUGH);
         }
+    }
+}
+
+// ---- value data
+
+/// A part of a chain that is made wrong: where, and the bytes there.
+type Fault = (usize, Vec<u8>);
+
+/// An image with a value record at 0 and, behind the base, a `db` cell, its list and three segments, in cells that touch; then 24
+/// bytes. No two parts of it hold the same data.
+const BASE: u32 = 40;
+const DB: usize = 48;
+const LIST: usize = 64;
+const SEGMENTS: [usize; 3] = [88, 88 + 16352, 88 + 2 * 16352];
+const TAIL: usize = 88 + 3 * 16352;
+const END: usize = TAIL + 24;
+fn offset(at: usize) -> u32 { at as u32 - BASE }
+fn signed(x: i32) -> [u8; 4] { x.to_le_bytes() }
+
+fn big(size: u32) -> Vec<u8> {
+    let mut m: Vec<u8> = (0..END as u32).map(|i| (i * 7 + i / 251 + i / 16344 * 5) as u8).collect();
+    value(&mut m, 0, b"big", 1, -32, [size, offset(DB), 3]);
+    db(&mut m, DB, -16, needed(size), offset(LIST));
+    put32(&mut m, LIST, (-24i32) as u32);
+    for i in 0..5 { put32(&mut m, LIST + 4 + 4 * i, if i < 3 { offset(SEGMENTS[i]) } else { 0 }); }
+    for p in SEGMENTS { put32(&mut m, p, (-16352i32) as u32); }
+    m
+}
+fn db(m: &mut [u8], at: usize, size: i32, count: u16, list: u32) {
+    put32(m, at, size as u32);
+    m[at + 4..at + 6].copy_from_slice(b"db");
+    put16(m, at + 6, count);
+    put32(m, at + 8, list);
+}
+fn needed(size: u32) -> u16 { size.div_ceil(SEGMENT) as u16 }
+/// The bytes of segment i of three.
+fn share(size: u32, i: usize) -> i32 { size.saturating_sub(SEGMENT * i as u32).min(SEGMENT) as i32 }
+
+/// Each rule on both sides. `more`: what is too large to be stored, or too much of the same.
+fn data_edges(o: &mut Out<impl Write>, more: bool) {
+    // resident
+    let m: Vec<u8> = (1..30).collect();
+    for n in [0usize, 29] {
+        o.image(&m[..n]);
+        for size in [0u32, 1, 2, 3, 4, 5, 6, 8, 0xff, 0x100, 0x104, SEGMENT, SEGMENT + 1, 0x10001, 0x1000000, 0x40000000, 0x40000004, 0x7ffffffb, 0x7fffffff] {
+            if n > 0 && size > 5 && !more { continue; }
+            let rooms = [size, size.saturating_sub(1), 0, size + 1, 9];
+            for (field, minor) in [(0x04030201, 3), (0xfcfdfeff, 4), (0, 0), (u32::MAX, u32::MAX)] {
+                o.data(1 << 31 | size, field, field / 3, minor, if size > 5 { &rooms[3..] } else if minor == 3 { &rooms } else { &rooms[..2] });
+            }
+        }
+    }
+    // no data: no cell is read
+    for n in [0usize, 8] {
+        o.image(&m[..n]);
+        for (off, base) in [(0, 0), (n as u32, 0), (n as u32 + 1, 0), (0, n as u32 + 1), (u32::MAX, u32::MAX)] { for minor in [3, 4] { o.data(0, off, base, minor, &[0, 3]); } }
+    }
+    // one cell: the bytes left, its size word, both signs; its position
+    let p = 5usize;
+    for left in if more { (0..20).collect() } else { vec![0usize, 3, 4, 5, 8, 11, 12, 13] } {
+        let m: Vec<u8> = (1..).take(p + left).collect();
+        o.image(&m);
+        let sizes = if more { (1..18).collect() } else { vec![1u32, 4, 7, 8, 9] };
+        for &size in &sizes {
+            if left < 4 { o.data(size, 2, 3, 5, &[size]); continue; }
+            let (s, l) = (size as i32, left as i32);
+            let mut words = vec![0, 4, s, s + 3, s + 4, s + 5, l - 1, l, l + 1, i32::MAX, i32::MIN];
+            words.sort();
+            words.dedup();
+            for w in words { for w in [w, w.wrapping_neg()] {
+                o.patch(p, &signed(w));
+                o.data(size, 2, 3, if size % 2 == 0 { 3 } else { 4 }, &[size]);
+                if w == -s - 4 { o.data(size, 2, 3, 5, &[0, size - 1, size + 1, size + 7]); }
+            } }
+            o.patch(p, &m[p..p + 4]);
+        }
+        let n = (p + left) as u32;
+        o.patch(p, &signed(-(left as i32)));
+        for (off, base) in [(n, 0), (0, n), (n - 3, 3), (n - 2, 3), (n + 1, 0), (0, n + 1), (n - 4, 0), (u32::MAX, 6), (6, u32::MAX), (u32::MAX, 0), (0, u32::MAX), (u32::MAX, u32::MAX), (1 << 31, 1 << 31), (5, 0), (0, 5), (1, 4)] {
+            o.data(1, off, base, 4, &[1]);
+            o.data(SEGMENT + 1, off, base, 4, &[1]);
+        }
+    }
+    // sizes and versions: as one cell and as a `db` cell
+    let sizes = [1, SEGMENT - 1, SEGMENT, SEGMENT + 1, 2 * SEGMENT, 2 * SEGMENT + 1, 40000, 3 * SEGMENT, 3 * SEGMENT + 1];
+    o.image(&big(40000));
+    let whole = (END - SEGMENTS[0]) as i32;
+    for size in sizes { for minor in [0, 3, 4, 5, u32::MAX] {
+        let rooms = [size, size - 1, size + 3, 0];
+        let rooms = if minor == 3 || minor == 4 { &rooms[..] } else { &rooms[..1] };
+        o.patch(SEGMENTS[0], &signed(-whole));
+        o.data(size, offset(SEGMENTS[0]), BASE, minor, rooms);
+        o.patch(SEGMENTS[0], &signed(-16352));
+        o.patch(DB + 6, &needed(size).to_le_bytes());
+        o.data(size, offset(DB), BASE, minor, rooms);
+    } }
+    // one large cell: exactly enough, one byte fewer, up to the image's end, past it
+    for size in [SEGMENT - 1, SEGMENT, SEGMENT + 1, 40000] {
+        let s = size as i32;
+        for w in [s + 4, s + 3, s, 0, 4, 12, whole, whole + 1, i32::MAX, i32::MIN] { for w in [w, w.wrapping_neg()] {
+            o.patch(SEGMENTS[0], &signed(w));
+            o.data(size, offset(SEGMENTS[0]), BASE, 3, if w == s + 4 { &[40000, 0] } else { &[0] });
+            if size <= SEGMENT { o.data(size, offset(SEGMENTS[0]), BASE, 4, if w == -s - 4 { &[40000, 0] } else { &[0] }); }
+        } }
+    }
+    // the chain's numbers: for each size, each cell in turn with each size word; each place
+    for size in [SEGMENT + 1, 2 * SEGMENT, 2 * SEGMENT + 1, 40000, 3 * SEGMENT] {
+        let m = big(size);
+        let n = needed(size) as usize;
+        o.image(&m);
+        let all = [size, size - 1, size + 9, 0, 1];
+        o.data(size, offset(DB), BASE, 4, &all);
+        o.data_of(0, BASE, 4, &all);
+        o.data_of(0, BASE, 3, &all[..1]);
+        for (at, least) in [(DB, 12), (LIST, 4 + 4 * n as i32)].into_iter().chain((0..n).map(|i| (SEGMENTS[i], 4 + share(size, i)))) {
+            let left = (END - at) as i32;
+            for w in [0, 1, 4, least - 4, least - 1, least, least + 1, left - 1, left, left + 1, i32::MAX, i32::MIN] { for w in [w, w.wrapping_neg()] {
+                o.patch(at, &signed(w));
+                o.data(size, offset(DB), BASE, 4, if w == -least || w == least || w == 1 - least { &all[..1] } else { &all[3..4] });
+                if w == 1 - least { o.data_of(0, BASE, 4, &all[..1]); }
+            } }
+            o.patch(at, &m[at..at + 4]);
+        }
+        for count in [0u16, 1, n as u16 - 1, n as u16 + 1, n as u16 + 2, n as u16 + 256, 0xff00 | n as u16, 0xffff] { o.patch(DB + 6, &count.to_le_bytes()); o.data(size, offset(DB), BASE, 4, &all[3..4]); if count > n as u16 { o.data(size, offset(DB), BASE, 5, &all[..1]); } }
+        o.patch(DB + 6, &m[DB + 6..DB + 8]);
+        for sign in [b"dB", b"bd", b"Db", b"d\0", b"lf", b"vk"] { o.patch(DB + 4, sign); o.data(size, offset(DB), BASE, 4, &all[3..4]); }
+        o.patch(DB + 4, b"db");
+        // the list's and each segment's place: at the end, past it, with too few bytes for a size word, past 32 bits, at others' places
+        for at in [DB + 8].into_iter().chain((0..n).map(|i| LIST + 4 + 4 * i)) {
+            for x in [END, END + 1, END - 3, END - 4, TAIL, SEGMENTS[0], SEGMENTS[1], SEGMENTS[2], SEGMENTS[1] - 4, LIST, DB, BASE as usize, u32::MAX as usize, (1 << 31) + 8] {
+                o.patch(at, &(x as u32).wrapping_sub(BASE).to_le_bytes());
+                o.data(size, offset(DB), BASE, 4, &[if x == SEGMENTS[0] || x == SEGMENTS[1] { size } else { 0 }]);
+            }
+            for x in [u32::MAX, u32::MAX - BASE, u32::MAX - BASE + 1, 0x7fffffff] { o.patch(at, &x.to_le_bytes()); o.data(size, offset(DB), BASE, 4, &[0]); }
+            o.patch(at, &m[at..at + 4]);
+        }
+        for at in [END, END + 1, END - 3, END - 4, END - 11, END - 12, TAIL, DB - 1, DB + 1, BASE as usize] { o.data(size, offset(at), BASE, 4, &[0]); o.data(size, at as u32, 0, 4, &[0]); }
+        for (off, base) in [(u32::MAX, 1), (u32::MAX, u32::MAX), (u32::MAX, 1 + DB as u32), (offset(DB), BASE + 1), (offset(DB) + BASE, 0), (0, DB as u32)] { o.data(size, off, base, 4, &[size]); }
+    }
+    // a `db` cell and a list at the image's end: the bytes left, and the size word
+    let m = big(40000);
+    o.image(&m);
+    for left in [0usize, 1, 3, 4, 5, 6, 8, 11, 12, 13, 16] { for w in [0, 4, 8, 11, 12, 13, 16, 17, 24] { for sign in [b"db", b"dc"] {
+        if sign == b"dc" && w != 12 && w != 17 { continue; }
+        let mut d = vec![0; 16];
+        db(&mut d, 0, if left % 2 == 0 { -w } else { w }, 3, offset(LIST));
+        d[4..6].copy_from_slice(sign);
+        o.patch(TAIL, &d);
+        o.length(TAIL + left);
+        o.data(40000, offset(TAIL), BASE, 4, &[if left == 12 && w == 12 { 40000 } else { 0 }]);
+        o.data(40000, offset(TAIL), BASE, 3, &[0]);
+    } } }
+    o.patch(DB + 8, &offset(TAIL).to_le_bytes());
+    o.patch(TAIL + 4, &m[LIST + 4..LIST + 16]);
+    for left in [0usize, 3, 4, 8, 12, 15, 16, 17, 20] { for w in [0, 4, 12, 15, 16, 17, 20, 21] {
+        o.patch(TAIL, &signed(if left % 2 == 0 { -w } else { w }));
+        o.length(TAIL + left);
+        o.data(40000, offset(DB), BASE, 4, &[if left == 16 && w == 16 { 40000 } else { 0 }]);
+    } }
+    o.image(&m);
+    // the last segment's cell ends where the image ends, and one byte later
+    for (size, from) in [(40000u32, SEGMENTS[2]), (2 * SEGMENT, SEGMENTS[1]), (SEGMENT + 1, SEGMENTS[1])] {
+        let last = share(size, needed(size) as usize - 1);
+        o.patch(DB + 6, &needed(size).to_le_bytes());
+        for cut in [0, 1, 2] { for w in [last + 4, last + 3] {
+            o.patch(from, &signed(-w));
+            o.length(from + 4 + last as usize - cut);
+            o.data(size, offset(DB), BASE, 4, &[size, 0]);
+        } }
+        o.image(&m);
+    }
+    // sizes that need a number of segments that 16 bits do not have
+    for size in [65535 * SEGMENT - 1, 65535 * SEGMENT, 65535 * SEGMENT + 1, 65536 * SEGMENT, 65536 * SEGMENT + 1, 0x7fffffff, 0x40000000] {
+        // with a list that is outside, so that a number taken as right is seen
+        for list in [LIST, END + 1] { for count in [0u16, 1, 65534, 65535, needed(size)] {
+            o.patch(DB + 6, &count.to_le_bytes());
+            o.patch(DB + 8, &offset(list).to_le_bytes());
+            o.data(size, offset(DB), BASE, 4, &[8]);
+        } }
+        o.data(size, offset(SEGMENTS[0]), BASE, 3, &[8]);
+    }
+    o.image(&m);
+    // two cells at fault: the first in reading order decides; one at fault and no room
+    let past = |at: usize| signed((END - at) as i32 + 1).to_vec();
+    let mut faults: Vec<(usize, Fault)> = vec![];
+    for (i, at) in [DB, LIST].into_iter().chain(SEGMENTS).enumerate() {
+        faults.push((i, (at, past(at))));
+        faults.push((i, (at, signed(-8).to_vec())));
+        let named = if i == 0 { continue } else if i == 1 { DB + 8 } else { LIST + 4 * (i - 1) };
+        faults.push((i, (named, offset(END + 1 + i).to_le_bytes().to_vec())));
+        faults.push((i, (named, offset(END - 3).to_le_bytes().to_vec())));
+    }
+    faults.push((0, (DB + 4, b"dc".to_vec())));
+    faults.push((0, (DB + 6, vec![2, 0])));
+    for (i, one) in &faults { for (j, two) in &faults {
+        if i > j || one == two || i == j && one.0 == two.0 { continue; }
+        for f in [one, two] { o.patch(f.0, &f.1); }
+        o.data(40000, offset(DB), BASE, 4, &[if more { 40000 } else { 0 }]);
+        for f in [one, two] { o.patch(f.0, &m[f.0..f.0 + f.1.len()]); }
+    } }
+    for (_, f) in &faults {
+        o.patch(f.0, &f.1);
+        o.data_of(0, BASE, 5, &[0, 40000]);
+        o.patch(f.0, &m[f.0..f.0 + f.1.len()]);
+    }
+    // segments that are one cell, that overlap, that are free; a list within the `db` cell, a segment in the list
+    let lists = |o: &mut Out<_>, places: [usize; 3]| for (i, p) in places.into_iter().enumerate() { o.patch(LIST + 4 + 4 * i, &offset(p).to_le_bytes()); };
+    let [a, b, c] = SEGMENTS;
+    for places in [[a, a, a], [b, b, a], [c, b, a], [c, c, b], [a, a + 8, a + 16], [a + 1, a + 2, b], [b, DB, LIST], [LIST, a, b]] {
+        lists(o, places);
+        o.data(40000, offset(DB), BASE, 4, &[40000, 39999]);
+        for p in places { o.patch(p, &signed(if p % 3 == 0 { 16352 } else { -16348 })); }
+        o.data(40000, offset(DB), BASE, 4, &[40000]);
+        o.data(2 * SEGMENT, offset(DB), BASE, 4, &[40000]);
+        for p in places { o.patch(p, &m[p..p + 4]); }
+        o.image(&m);
+    }
+    o.patch(BASE as usize, &m[a..a + 32]);
+    for at in [DB - 8, DB + 4, DB + 8, LIST - 4, LIST - 8] {
+        // a `db` cell of 16 bytes at the base's own place and a list that begins within it
+        let mut d = m[..SEGMENTS[0]].to_vec();
+        db(&mut d, DB, -16, 3, offset(at));
+        if at != DB + 4 { put32(&mut d, at, if at == DB + 8 { offset(at) } else { 16 }); }
+        for i in 0..3 { if at + 4 + 4 * i >= DB + 12 || at < DB { put32(&mut d, at + 4 + 4 * i, offset(SEGMENTS[i])); } }
+        o.patch(0, &d);
+        o.data(40000, offset(DB), BASE, 4, &[40000, 0]);
+        o.data(2 * SEGMENT, offset(DB), BASE, 4, &[0]);
+    }
+    o.image(&m);
+    // of a record: its own refusals, then those of the data; the record as its own data's cell
+    for (at, bytes) in [(0usize, signed(0)), (0, signed(-23)), (0, signed(24)), (0, signed(31)), (0, signed(32)), (0, signed(i32::MIN)), (0, signed(END as i32)), (0, signed(END as i32 + 1)), (4, *b"vk\x08\0"), (4, *b"vk\x09\0"), (4, *b"nk\x03\0"), (12, signed(-1)), (12, signed(END as i32 - 40 + 1))] {
+        o.patch(at, &bytes);
+        o.data_of(0, BASE, 4, &[40000, 0]);
+        o.patch(at, &m[at..at + 4]);
+    }
+    for at in [1, DB as u32, END as u32 - 24, END as u32 - 23, END as u32, END as u32 + 1, u32::MAX] { o.data_of(at, BASE, 4, &[8]); }
+    for raw in [0u32, 1, 4, 27, 28, 29, 1 << 31, 1 << 31 | 1, 1 << 31 | 4, 1 << 31 | 5, u32::MAX] { for off in [0u32, 0x04030201, u32::MAX] {
+        o.patch(8, &raw.to_le_bytes());
+        o.patch(12, &off.to_le_bytes());
+        for t in [1u32, 4, 11] { o.patch(16, &t.to_le_bytes()); o.data_of(0, 0, 5, if t == 1 { &[40, 0] } else { &[40] }); }
+    } }
+    for n in [0, 12, 23, 24, 31, 32, 33] { o.length(n); o.data_of(0, 0, 4, &[4]); }
+    o.image(&m);
+    if !more { return; }
+    // each byte of the chain's numbers changed
+    for at in (0..24).chain(DB..DB + 16).chain(LIST..LIST + 16).chain(SEGMENTS.into_iter().flat_map(|p| p..p + 5)) {
+        for x in [0, 255, m[at] ^ 1, m[at] ^ 0x80, m[at].wrapping_add(8)] { o.patch(at, &[x]); o.data_of(0, BASE, 4, &[40000]); o.data_of(0, BASE, 3, &[40000]); }
+        o.patch(at, &m[at..at + 1]);
+    }
+    // every cut near a cell's end or start
+    for p in [0, 24, DB, DB + 12, LIST, LIST + 16, SEGMENTS[0], SEGMENTS[1], SEGMENTS[2], SEGMENTS[2] + 4 + 7312, TAIL, END] {
+        for n in p.saturating_sub(5)..(p + 6).min(END) { o.length(n); o.data_of(0, BASE, 4, &[40000]); o.data(40000, offset(DB), BASE, 4, &[0]); o.data(40000, offset(SEGMENTS[0]), BASE, 3, &[0]); }
+    }
+    // five segments of one cell that fill the greatest room, and one byte more
+    o.image(&m);
+    o.patch(TAIL - 32, &[signed(-24), offset(a).to_le_bytes(), offset(b).to_le_bytes(), offset(a).to_le_bytes(), offset(a).to_le_bytes(), offset(b).to_le_bytes()].concat());
+    o.patch(DB + 6, &[5, 0]);
+    o.patch(DB + 8, &offset(TAIL - 32).to_le_bytes());
+    for size in [4 * SEGMENT, 4 * SEGMENT + 1, DATA_MOST - 1, DATA_MOST, DATA_MOST + 1, 5 * SEGMENT] { o.data(size, offset(DB), BASE, 4, &[DATA_MOST, DATA_MOST - 1, 0]); }
+    // a list within the `db` cell: its first entry is made of the letters and the number, its second of the list's own offset
+    let mut m = vec![0; 172_700];
+    for (i, x) in m.iter_mut().enumerate() { *x = (i * 11 + i / 253) as u8; }
+    db(&mut m, 48, -16, 2, 8);
+    let at = 0x00026264 + 40;
+    put32(&mut m, at, (-16348i32) as u32);
+    o.image(&m);
+    for size in [SEGMENT + 1, SEGMENT + 12, SEGMENT + 13] { o.data(size, 8, 40, 4, &[size, 0]); }
+    o.length(at + 16348); o.data(SEGMENT + 12, 8, 40, 4, &[20000]);
+    o.length(at + 16347); o.data(SEGMENT + 12, 8, 40, 4, &[20000]);
+    // 65,535 segments, all of one cell: the most there can be
+    let mut m = vec![0; 279_000];
+    db(&mut m, 0, -16, 65535, 16);
+    put32(&mut m, 16, (-262144i32) as u32);
+    for i in 0..65535 { put32(&mut m, 20 + 4 * i, 262_160); }
+    put32(&mut m, 262_160, 16348);
+    o.image(&m);
+    for size in [65535 * SEGMENT, 65535 * SEGMENT - 1, 65534 * SEGMENT + 1, 65534 * SEGMENT, 65535 * SEGMENT + 1] { o.data(size, 0, 0, 4, &[0]); }
+    o.patch(20 + 4 * 65534, &262_161u32.to_le_bytes()); o.data(65535 * SEGMENT, 0, 0, 4, &[0]);
+    o.patch(16, &signed(-262143)); o.data(65535 * SEGMENT, 0, 0, 4, &[0]);
+}
+
+/// Random cells of a few bytes, and random chains in one image.
+fn datas(o: &mut Out<impl Write>, r: &mut Rng, random: u64) {
+    for _ in 0..random {
+        let n = r.range(0, 60);
+        let mut m = r.bytes(n);
+        let base = r.pick(&[0usize, 0, 4, 9]);
+        let at = base + r.range(0, n + 2);
+        let size = if r.chance(10) { r.word() } else { r.range(0, 30) as u32 };
+        let word = size as i64 + r.pick(&[4i64, 4, 4, 5, 8, 3, 0, 20]);
+        if at + 4 <= n && !r.chance(6) { put32(&mut m, at, if r.chance(2) { word } else { -word } as u32); }
+        let record = n >= 24 && r.chance(2);
+        let raw = if r.chance(5) { 1 << 31 | r.below(7) as u32 } else { size };
+        let off = if r.chance(20) { r.word() } else { (at - base) as u32 };
+        let room = r.pick(&[raw & 0x7fffffff, raw & 0x7fffffff, size.saturating_sub(1), 40, 0]);
+        let minor = r.pick(&[0u32, 3, 4, 5, 6]);
+        if record {
+            let size = if r.chance(8) { r.range(20, n + 2) as i32 } else { 24 };
+            value(&mut m, n - 24, b"", 1, if r.chance(2) { size } else { -size }, [raw, off, r.pick(&[1, 3, 3, 4, 11, 7, 0x10004])]);
+        }
+        o.image(&m);
+        o.data(raw, off, base as u32, minor, &[room]);
+        if record { o.data_of((n - 24) as u32, base as u32, minor, &[room, 40]); }
+    }
+    // a chain whose parts lie anywhere
+    let (n, m) = (END, big(40000));
+    o.image(&m);
+    for _ in 0..random / 2 {
+        let base = r.pick(&[0usize, 32, 4096]);
+        let k = r.range(1, 3);
+        let size = match r.below(4) { 0 => SEGMENT as usize * k + r.range(0, 3), 1 => SEGMENT as usize * k - r.range(0, 3), _ => r.range(16000, 49500) } as u32;
+        let count = needed(size) as usize;
+        let place = |r: &mut Rng, least: usize| base + r.range(0, (n - base - least.min(n - base)) / 4) * 4;
+        let (d, l) = (place(r, 12), place(r, 4 + 4 * count));
+        let mut put: Vec<(usize, Vec<u8>)> = vec![];
+        for i in 0..count {
+            let part = share(size, i) as usize;
+            let p = place(r, part + 4);
+            let word = part as i64 + r.pick(&[4i64, 4, 4, 4, 5, 8, 11, 100]) - if r.chance(25) { 1 } else { 0 };
+            put.push((p, (if r.chance(2) { word } else { -word } as u32).to_le_bytes().to_vec()));
+            let entry = if r.chance(50) { r.word() } else { (p - base) as u32 };
+            put.push((l + 4 + 4 * i, entry.to_le_bytes().to_vec()));
+        }
+        put.push((l, signed(-(4 + 4 * count as i32) + if r.chance(25) { 1 } else { 0 } - r.range(0, 9) as i32).to_vec()));
+        let named = if r.chance(8) { (count as u16).wrapping_add(r.pick(&[1, 0xffff, 2])) } else { count as u16 };
+        let mut cell = vec![0; 12];
+        db(&mut cell, 0, -r.pick(&[12, 16, 16, 24, 12, 16, 11]), named, (l - base) as u32);
+        if r.chance(25) { cell[4 + r.range(0, 1)] ^= 1; }
+        put.push((d, cell));
+        // one part over the other where they meet: the last one written stays
+        for (at, b) in &put { let b = &b[..b.len().min(n - at)]; o.patch(*at, b); }
+        if r.chance(12) { o.length(r.range(n - 20_000, n)); }
+        let minor = r.pick(&[4u32, 4, 5, 6, 3, 0xffff]);
+        let room = r.pick(&[size, size, size - 1, size + 1, 0]);
+        o.data(size, (d - base) as u32, base as u32, minor, &[room]);
+        let p = (d - base) as u32 + r.below(3) as u32;
+        if r.chance(5) { o.data(size, p, base as u32, minor, &[0]); }
+        if r.chance(3) { o.image(&m); } else { o.length(n); for (at, b) in &put { let b = b.len().min(n - at); o.patch(*at, &m[*at..*at + b]); } }
     }
 }
 
@@ -1052,14 +1427,14 @@ fn main() {
     let to = BufWriter::with_capacity(1 << 16, std::io::stdout().lock());
     let mut o = Out::new(to, [1; TAGS], 0);
     match (args.first().map(|s| s.as_str()), number(0), number(1)) {
-        (Some("fixed"), _, _) => { boundaries(&mut o); fixed(&mut o); wide(&mut o); cells(&mut o, &mut Rng(0), 0); puts(&mut o, &mut Rng(0), 0); leaves(&mut o, &mut Rng(0), 0, 0) }
+        (Some("fixed"), _, _) => { boundaries(&mut o); fixed(&mut o); wide(&mut o); cells(&mut o, &mut Rng(0), 0); puts(&mut o, &mut Rng(0), 0); leaves(&mut o, &mut Rng(0), 0, 0); data_edges(&mut o, true) }
         (Some("hives"), _, Some(seed)) => hives(&mut o, &mut Rng(seed), &args[2..], 12, 40),
         (Some("stored"), _, Some(seed)) => stored(&mut o, seed, &args[2..], false),
         (Some("stored-rust"), _, Some(seed)) => {
             if args[2] != "-" { o.marked = Some(std::fs::read(&args[2]).expect("a list of marks")); }
             stored(&mut o, seed, &args[3..], true)
         }
-        (_, Some(seed), Some(n)) => { rounds(&mut o, &mut Rng(seed), n, USUAL); cells(&mut o, &mut Rng(seed), 10 * n); puts(&mut o, &mut Rng(seed), 10 * n); leaves(&mut o, &mut Rng(seed), n, USUAL.0) }
+        (_, Some(seed), Some(n)) => { rounds(&mut o, &mut Rng(seed), n, USUAL); cells(&mut o, &mut Rng(seed), 10 * n); puts(&mut o, &mut Rng(seed), 10 * n); leaves(&mut o, &mut Rng(seed), n, USUAL.0); datas(&mut o, &mut Rng(seed), 4 * n) }
         _ => { eprintln!("usage: cases fixed | hives SEED FILE.. | stored SEED FILE.. | stored-rust SEED MARKS FILE.. | SEED ROUNDS"); std::process::exit(2) }
     }
     o.to.flush().unwrap();

@@ -11,19 +11,20 @@ use borrow.Author.Tests.{eqb-true}
 use lib.ListN.{length, drop, length-append, length-take, length-drop}
 use Rattle.words.specs.Paper.{Paper, success, refused, by, onSuccess, andThen}
 use Rattle.words.specs.Refusals.{BAD-DATA}
-use Rattle.words.proofs.Papers.{success-refused, same-success}
+use Rattle.words.proofs.Papers.{success-refused, same-success, then-next}
 use Rattle.words.proofs.Writing.{bytes-length}
 use Rattle.cell.specs.Cells.{Cell, held, tooSmall, magnitudeAt, cellAt}
 use Rattle.cell.specs.Exactly.{Reads}
 use Rattle.cell.specs.declared.CellSize.{CellSize}
 use Rattle.cell.specs.declared.CellAnswer.the-variants.{Held}
+use Rattle.cell.proofs.Cells.{cell-held}
 use Rattle.cell.proofs.Exactly.{held-reads}
 use Rattle.cell_key_node.specs.ValueList.{upTo, entryOf}
 use Rattle.cell_key_node.proofs.Fill.{up-length}
 use Rattle.value_data.specs.Pieces.{Piece, piece, bytesIn, joined, sized, holds, judged, SEGMENT, segments}
 use Rattle.value_data.specs.Data.{Source, field, pieces, whole, segmentsNeeded, bigAt, listOf, listPiece, segmentsAt, fromList, inSegments, isBig, sourceOf}
 use Rattle.value_data.specs.Answers.{bytesFrom}
-use Rattle.value_data.specs.Whole.{total, at, Lies, MadeOf, FirstFault}
+use Rattle.value_data.specs.Whole.{total, at, Lies, MadeOf, Passes, FirstFault}
 use Rattle.value_data.proofs.Sizes.{needed-enough, needed-least}
 
 -- ---- one cell
@@ -61,6 +62,23 @@ unfolding judged
 judged-lies image [] e i h = absurd (omega arith)
 judged-lies image (q ∷ qs) e zero h = holds-lies image q (both (holds image q) (judged image qs) e .0)
 judged-lies image (q ∷ qs) e (suc i) h = judged-lies image qs (both (holds image q) (judged image qs) e .1) i (omega arith)
+
+-- and back: such a cell passes, and so does a row of them
+lies-holds : (image : List ℕ) (q : Piece) → Lies image q → holds image q ≡ success tt
+unfolding holds
+lies-holds image q l =
+    let o = l .own in
+    let i = l .inside in
+    ap sized (sym (cell-held image (q .cell) (4 + q .long) (omega arith) (omega arith) refl (omega arith) o))
+
+lies-judged : (image : List ℕ) (qs : List Piece) → ((i : ℕ) → i < length qs → Lies image (at qs i)) → judged image qs ≡ success tt
+unfolding judged
+lies-judged image [] l = refl
+lies-judged image (q ∷ qs) l =
+    then-next (judged image qs) (lies-holds image q (l zero (omega arith))) ∙ lies-judged image qs (λ i h. l (suc i) (omega arith))
+
+pub passes : Passes
+passes image qs = (judged-lies image qs, lies-judged image qs)
 
 pub joined-length : (image : List ℕ) (qs : List Piece) → ((i : ℕ) → i < length qs → Lies image (at qs i)) → length (joined image qs) ≡ total qs
 unfolding joined total

@@ -3,6 +3,7 @@
 use Prim.{tt}
 use Prim.Native.Nat.{ℕ, _+_, _*_, _≤_, _<_}
 use mathlib.Core.Path.{_≡_}
+use mathlib.Core.Logic.{_↔_}
 use mathlib.Core.List.{List, [], _∷_, _++_}
 use mathlib.Core.Bool.{true, false}
 use lib.ListN.{length, getD, take, drop}
@@ -43,6 +44,10 @@ pub record MadeOf (image : List ℕ) (size : ℕ) (qs : List Piece) : Type 0 whe
   pub sum : total qs ≡ size
   pub full : FullButLast qs
   pub lies : (i : ℕ) → i < length qs → Lies image (at qs i)
+
+-- a row of cells passes exactly where each of its pieces lies so
+abbrev pub Passes : Type 0
+Passes = (image : List ℕ) (qs : List Piece) → (judged image qs ≡ success tt) ↔ ((i : ℕ) → i < length qs → Lies image (at qs i))
 
 -- "cell by cell in reading order": every cell before it passes, and the first that does not gives the refusal
 abbrev pub FirstFault : Type 0

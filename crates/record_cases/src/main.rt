@@ -271,7 +271,7 @@ fn list_answer(answer: ValueListAnswer) {
             io::write_all(1, b" refused");
             word(f.number);
             place(f.position);
-            word(f.places);
+            place(f.places);
         }
     }
 }

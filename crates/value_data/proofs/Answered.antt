@@ -1,6 +1,6 @@
 -- What an answer says, of the answer itself: what was copied, and when it is refused for want of room. Assumes nothing.
 use Prim.{tt}
-use mathlib.Core.Path.{_≡_, refl, sym, ap, _∙_}
+use mathlib.Core.Path.{_≡_, refl, sym, ap, subst, _∙_}
 use mathlib.Core.List.{List, [], _∷_, _++_}
 use mathlib.Core.Bool.{Bool, true, false, cond, not}
 use Prim.Native.Nat.{ℕ, _+_, _≤_, _<_}
@@ -13,17 +13,17 @@ use Rattle.words.specs.Paper.{Told, Paper, success, refused, by, toldOfRoom, on
 use Rattle.words.specs.Refusals.{NO-ROOM, BAD-DATA, BAD-SIGN, CUT-SHORT}
 use Rattle.words.specs.Buffers.{needing, inRoom}
 use Rattle.words.specs.declared.RoomRefusal.{RoomRefusal}
-use Rattle.words.proofs.Papers.{success-refused, refused-success, same-success, same-told, on-success-of}
+use Rattle.words.proofs.Papers.{success-refused, refused-success, same-told, on-success-of}
 use Rattle.words.proofs.Buffers.{room-success, untouched, filled}
 use Rattle.cell.specs.Cells.{Cell, held, tooSmall, magnitudeAt, bytesLeft, cellAt}
 use Rattle.cell_big_data.specs.Big.{isBigDataBlock}
 use Rattle.words.specs.Words.{word16}
-use Rattle.value_data.specs.Pieces.{Piece, piece, joined, sized, holds, judged}
-use Rattle.value_data.specs.Data.{TOP-BIT, isResident, sizeOf, Source, field, pieces, whole, segmentsNeeded, bigHead, bigIn, bigAt, listOf, listPiece, segmentsAt, fromList, inSegments, isBig, sourceOf}
-use Rattle.value_data.specs.Answers.{dataOf, dataBytes, dataIn, DataAnswered}
+use Rattle.value_data.specs.Pieces.{Piece, piece, sized, holds, judged}
+use Rattle.value_data.specs.Data.{TOP-BIT, isResident, sizeOf, Source, field, pieces, segmentsNeeded, bigHead, bigIn, bigAt, listOf, listPiece, segmentsAt, fromList, inSegments, isBig, sourceOf}
+use Rattle.value_data.specs.Answers.{bytesFrom, dataOf, dataBytes, dataIn, DataAnswered}
 use Rattle.value_data.specs.Whole.{MadeOf, WasCopied, WasRefused, FromPieces}
 use Rattle.value_data.specs.declared.DataAnswer.the-variants.{Copied, Refused}
-use Rattle.value_data.proofs.Whole.{both, made, row-length}
+use Rattle.value_data.proofs.Whole.{made, row-length}
 
 module _ (image : List ℕ) (base minor raw offset : ℕ) (old new : List ℕ) where
   -- where bytes were copied, the data was found
@@ -54,39 +54,15 @@ module _ (image : List ℕ) (base minor raw offset : ℕ) (old new : List ℕ) w
 
 -- ---- where the top bit is not set the data is a row of pieces
 
-field-pieces : {ps : List Piece} → pieces ps ≡ field → ⊥
-field-pieces x = let z : _≡_ {A = ℕ} 0 1 = cc in absurd (omega arith)
-
-no-field : (image : List ℕ) (ps : List Piece) → whole image ps ≡ success field → ⊥
-no-field image ps e = field-pieces (on-success-of (λ u. pieces ps) (judged image ps) e .2)
-
-never-field : (image : List ℕ) (base minor size offset : ℕ) → sourceOf image base minor false size offset ≡ success field → ⊥
-unfolding sourceOf inSegments fromList
-never-field image base minor size offset e = go (eqb size 0) (isBig minor size) e
-  where
-    go : (z b : Bool)
-        → cond z (success (pieces [])) (cond b (inSegments image base (offset + base) size) (whole image (piece (offset + base) size ∷ []))) ≡ success field
-        → ⊥
-    go true b x = field-pieces (same-success x)
-    go false true x = no-field image _ (both (holds image (listPiece (listOf image base (offset + base)) size)) _ (both (bigAt image (offset + base) (segmentsNeeded size)) _ x .1) .1)
-    go false false x = no-field image _ x
-
 pub from-pieces : FromPieces
 unfolding dataOf dataBytes
 from-pieces image base minor raw offset old new n t x =
     let y = found image base minor raw offset old new x in
     let c = copied image base minor raw offset old new n x in
-    go (y .1 .0) (y .1 .1) (y .1 .2) (c .row)
-  where
-    r : isResident raw ≡ false
-    r = lt-leb TOP-BIT raw t
-
-    go : (s : Source) → dataOf image base minor raw offset ≡ success s → sizeOf raw ≡ n → take n new ≡ dataBytes image base minor raw offset
-        → (qs : List Piece) × MadeOf image n qs × (take n new ≡ joined image qs)
-    go field e z w = absurd (never-field image base minor (sizeOf raw) offset (rw r at e))
-    go (pieces qs) e z w =
-        let m : MadeOf image (sizeOf raw) qs = made image base minor (sizeOf raw) offset (isResident raw) qs e in
-        (qs, rw z at m, w ∙ rw e)
+    let e = y .1 .1 in
+    let r : isResident raw ≡ false = lt-leb TOP-BIT raw t in
+    let m = made image base minor (sizeOf raw) offset (rw r at e) in
+    (m .0, subst (λ (k : ℕ). MadeOf image k (m .0)) (y .1 .2) (m .2), c .row ∙ rw e (ap (bytesFrom image (sizeOf raw) offset) (m .1)))
 
 -- ---- no refusal of the data itself is NO ROOM
 

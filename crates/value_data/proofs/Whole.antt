@@ -9,9 +9,9 @@ use native.Mathlib.Omega.{arith}
 use lib.Dec.{ltb, eqb}
 use borrow.Author.Tests.{eqb-true}
 use lib.ListN.{length, drop, length-append, length-take, length-drop}
-use Rattle.words.specs.Paper.{Paper, success, refused, by, onSuccess, andThen}
+use Rattle.words.specs.Paper.{Paper, success, refused, by, andThen}
 use Rattle.words.specs.Refusals.{BAD-DATA}
-use Rattle.words.proofs.Papers.{success-refused, same-success, then-next}
+use Rattle.words.proofs.Papers.{success-refused, same-success, then-next, on-success-of}
 use Rattle.words.proofs.Writing.{bytes-length}
 use Rattle.cell.specs.Cells.{Cell, held, tooSmall, magnitudeAt, cellAt}
 use Rattle.cell.specs.Exactly.{Reads}
@@ -24,7 +24,7 @@ use Rattle.cell_key_node.proofs.Fill.{up-length}
 use Rattle.value_data.specs.Pieces.{Piece, piece, bytesIn, joined, sized, holds, judged, SEGMENT, segments}
 use Rattle.value_data.specs.Data.{Source, field, pieces, whole, segmentsNeeded, bigAt, listOf, listPiece, segmentsAt, fromList, inSegments, isBig, sourceOf}
 use Rattle.value_data.specs.Answers.{bytesFrom}
-use Rattle.value_data.specs.Whole.{total, at, Lies, MadeOf, Passes, FirstFault}
+use Rattle.value_data.specs.Whole.{total, at, FullButLast, Lies, MadeOf, Passes, FirstFault}
 use Rattle.value_data.proofs.Sizes.{needed-enough, needed-least}
 
 -- ---- one cell
@@ -114,38 +114,30 @@ segments-full base (e ∷ es) left (suc i) h k = segments-full base es (left - S
 
 -- ---- the pieces that a value's data is made of
 
-whole-is : (image : List ℕ) (ps qs : List Piece) → whole image ps ≡ success (pieces qs) → (judged image ps ≡ success tt) × (ps ≡ qs)
-unfolding onSuccess
-whole-is image ps qs e = go (judged image ps) refl e
-  where
-    same : pieces ps ≡ pieces qs → ps ≡ qs
-    same x = cc
-
-    go : (a : Paper (Unit {0})) → judged image ps ≡ a → onSuccess (λ u. pieces ps) a ≡ success (pieces qs) → (judged image ps ≡ success tt) × (ps ≡ qs)
-    go (success u) x y = (x, same (same-success y))
-    go (refused t) x y = absurd (success-refused (sym y))
+-- what is found is a row of such pieces
+abbrev pub Row : List ℕ → ℕ → Source → Type 0
+Row image size s = (qs : List Piece) × (s ≡ pieces qs) × MadeOf image size qs
 
 module _ (image : List ℕ) (base minor size offset : ℕ) where
-  one-made : (p : ℕ) (qs : List Piece) → whole image (piece p size ∷ []) ≡ success (pieces qs) → MadeOf image size qs
-  unfolding total
-  one-made p qs e =
-      let w = whole-is image (piece p size ∷ []) qs e in
-      rw (← w .1) (record { sum = omega arith; full = λ i h. absurd (omega arith); lies = judged-lies image (piece p size ∷ []) (w .0) })
+  -- a row that was judged
+  whole-made : (ps : List Piece) {s : Source} → whole image ps ≡ success s → total ps ≡ size → FullButLast ps → Row image size s
+  whole-made ps e sum full =
+      let w = on-success-of (λ u. pieces ps) (judged image ps) e in
+      (ps, sym (w .2), record { sum = sum; full = full; lies = judged-lies image ps (w .1) })
 
-  segments-made : (l : ℕ) (qs : List Piece) → whole image (segmentsAt image base l size) ≡ success (pieces qs) → MadeOf image size qs
+  one-made : (p : ℕ) {s : Source} → whole image (piece p size ∷ []) ≡ success s → Row image size s
+  unfolding total
+  one-made p e = whole-made (piece p size ∷ []) e (omega arith) (λ i h. absurd (omega arith))
+
+  segments-made : (l : ℕ) {s : Source} → whole image (segmentsAt image base l size) ≡ success s → Row image size s
   unfolding segmentsAt
-  segments-made l qs e =
+  segments-made l e =
       let es : List ℕ = upTo (entryOf (drop l image)) (segmentsNeeded size) in
       let n : length es ≡ segmentsNeeded size = up-length (entryOf (drop l image)) (segmentsNeeded size) in
-      let w = whole-is image (segments base es size) qs e in
       let long = segments-length base es size in
       let enough = needed-enough size in
-      rw (← w .1)
-      (record {
-        sum = segments-total base es size (rw n enough);
-        full = λ i h. segments-full base es size i (not-last i (omega arith)) (omega arith);
-        lies = judged-lies image (segments base es size) (w .0);
-      })
+      whole-made (segments base es size) e (segments-total base es size (rw n enough))
+      (λ i h. segments-full base es size i (not-last i (omega arith)) (omega arith))
     where
       not-last : (i : ℕ) → i + 1 < segmentsNeeded size → (i + 1) * SEGMENT ≤ size
       not-last i h = go (decLe ((i + 1) * SEGMENT) size)
@@ -154,34 +146,33 @@ module _ (image : List ℕ) (base minor size offset : ℕ) where
           go (yes k) = k
           go (no k) = let least = needed-least size (i + 1) (omega arith) in absurd (omega arith)
 
-  pub made : (resident : Bool) (qs : List Piece) → sourceOf image base minor resident size offset ≡ success (pieces qs) → MadeOf image size qs
+  -- where the top bit is not set
+  pub made : {s : Source} → sourceOf image base minor false size offset ≡ success s → Row image size s
   unfolding sourceOf inSegments fromList total
-  made resident qs e = go resident (ltb 4 size) (eqb size 0) (isBig minor size) refl e
+  made {s} e = go (eqb size 0) (isBig minor size) refl e
     where
-      field-pieces : {ps : List Piece} → field ≡ pieces ps → ⊥
-      field-pieces x = let z : _≡_ {A = ℕ} 0 1 = cc in absurd (omega arith)
-
-      none-made : size ≡ 0 → pieces [] ≡ pieces qs → MadeOf image size qs
-      none-made z x =
-          let y : [] ≡ qs = cc in
-          rw (← y) (record { sum = sym z; full = λ i h. absurd (omega arith); lies = λ i h. absurd (omega arith) })
-
-      go : (r l z b : Bool) → eqb size 0 ≡ z
-          → cond r (cond l (refused (by BAD-DATA 0)) (success field))
-          (cond z (success (pieces []))
-          (cond b (inSegments image base (offset + base) size) (whole image (piece (offset + base) size ∷ []))))
-          ≡ success (pieces qs)
-          → MadeOf image size qs
-      go true true z b n x = absurd (success-refused (sym x))
-      go true false z b n x = absurd (field-pieces (same-success x))
-      go false l true b n x = none-made (eqb-true _ _ n) (same-success x)
-      go false l false true n x =
-          segments-made (listOf image base (offset + base)) qs (both (holds image (listPiece (listOf image base (offset + base)) size)) _ (both (bigAt image (offset + base) (segmentsNeeded size)) _ x .1) .1)
-      go false l false false n x = one-made (offset + base) qs x
+      go : (z b : Bool) → eqb size 0 ≡ z
+          → cond z (success (pieces [])) (cond b (inSegments image base (offset + base) size) (whole image (piece (offset + base) size ∷ [])))
+          ≡ success s
+          → Row image size s
+      go true b n x = (
+        [],
+        sym (same-success x),
+        record { sum = sym (eqb-true _ _ n); full = λ i h. absurd (omega arith); lies = λ i h. absurd (omega arith) },
+      )
+      go false true n x =
+          segments-made (listOf image base (offset + base))
+          (both (holds image (listPiece (listOf image base (offset + base)) size)) _ (both (bigAt image (offset + base) (segmentsNeeded size)) _ x .1) .1)
+      go false false n x = one-made (offset + base) x
 
   -- its bytes are as many as its size says
   pub row-length : (resident : Bool) (s : Source) → sourceOf image base minor resident size offset ≡ success s → length (bytesFrom image size offset s) ≡ size
-  row-length resident field e = bytes-length size offset
-  row-length resident (pieces qs) e =
-      let m = made resident qs e in
-      joined-length image qs (m .lies) ∙ m .sum
+  unfolding sourceOf
+  row-length true s e = go (ltb 4 size) e
+    where
+      go : (l : Bool) → cond l (refused (by BAD-DATA 0)) (success field) ≡ success s → length (bytesFrom image size offset s) ≡ size
+      go true x = absurd (success-refused (sym x))
+      go false x = ap (λ (t : Source). length (bytesFrom image size offset t)) (sym (same-success x)) ∙ bytes-length size offset
+  row-length false s e =
+      let m = made e in
+      ap (λ (t : Source). length (bytesFrom image size offset t)) (m .1) ∙ joined-length image (m .0) (m .2 .lies) ∙ m .2 .sum

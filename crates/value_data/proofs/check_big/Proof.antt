@@ -23,13 +23,19 @@ enum-known-refusal : tie.Need-enum-known-refusal
 enum-known-refusal c = search needs
 
 returns : tie.Need-returns
-returns c = let a = c .before .before .before .before .before .args in c .check-head .ensures ∙ big-verdict (a .image .now) (a .position) (a .count) (c .before .before .before .cell-at .ensures) (c .before .enum-told .given .1)
+returns c =
+    let a = c .before .before .before .before .before .args in
+    c .check-head .ensures ∙ big-verdict (a .image .now) (a .position) (a .count) (c .before .before .before .cell-at .ensures) (c .before .enum-told .given .1)
 
 returns-2 : tie.Need-returns-2
-returns-2 c = let a = c .before .before .before .before .before .args in c .check-head2 .ensures ∙ big-verdict (a .image .now) (a .position) (a .count) (c .before .before .before .cell-at .ensures) (c .before .enum-told2 .given .1)
+returns-2 c =
+    let a = c .before .before .before .before .before .args in
+    c .check-head2 .ensures ∙ big-verdict (a .image .now) (a .position) (a .count) (c .before .before .before .cell-at .ensures) (c .before .enum-told2 .given .1)
 
 returns-3 : tie.Need-returns-3
-returns-3 c = let a = c .before .before .before .before .before .args in big-verdict (a .image .now) (a .position) (a .count) (c .before .before .before .cell-at .ensures) (c .before .refusal .given .1)
+returns-3 c =
+    let a = c .before .before .before .before .before .args in
+    big-verdict (a .image .now) (a .position) (a .count) (c .before .before .before .cell-at .ensures) (c .before .refusal .given .1)
 
 pub check-big-spec : {M : Type 1} → statement M
 check-big-spec =

@@ -25,13 +25,19 @@ enum-known-refusal : tie.Need-enum-known-refusal
 enum-known-refusal c = search needs
 
 returns : tie.Need-returns
-returns c = let a = c .before .before .before .before .args in cell-verdict (a .image .now) (a .position) (a .bytes) (c .before .before .cell-at .ensures) (c .enum-told .given .1)
+returns c =
+    let a = c .before .before .before .before .args in
+    cell-verdict (a .image .now) (a .position) (a .bytes) (c .before .before .cell-at .ensures) (c .enum-told .given .1)
 
 returns-2 : tie.Need-returns-2
-returns-2 c = let a = c .before .before .before .before .before .args in ap (λ (f : Refusal). refused (told f)) (c .bad-data .ensures) ∙ cell-verdict (a .image .now) (a .position) (a .bytes) (c .before .before .before .cell-at .ensures) (c .before .enum-told2 .given .1)
+returns-2 c =
+    let a = c .before .before .before .before .before .args in
+    ap (λ (f : Refusal). refused (told f)) (c .bad-data .ensures) ∙ cell-verdict (a .image .now) (a .position) (a .bytes) (c .before .before .before .cell-at .ensures) (c .before .enum-told2 .given .1)
 
 returns-3 : tie.Need-returns-3
-returns-3 c = let a = c .before .before .before .before .before .args in cell-verdict (a .image .now) (a .position) (a .bytes) (c .before .before .before .cell-at .ensures) (c .before .refusal .given .1)
+returns-3 c =
+    let a = c .before .before .before .before .before .args in
+    cell-verdict (a .image .now) (a .position) (a .bytes) (c .before .before .before .cell-at .ensures) (c .before .refusal .given .1)
 
 pub check-cell-spec : {M : Type 1} → statement M
 check-cell-spec =

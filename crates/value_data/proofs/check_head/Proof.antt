@@ -11,19 +11,25 @@ from-requires : tie.Need-from-requires
 from-requires c κs = search needs
 
 returns : tie.Need-returns
-returns c = let a = c .before .before .before .args in head-cut (a .image .now) (a .position) (a .count) (a .large) (c .before .from .ensures .bytes) (c .if1 .taken)
+returns c =
+    let a = c .before .before .before .args in
+    head-cut (a .image .now) (a .position) (a .count) (a .large) (c .before .from .ensures .bytes) (c .if1 .taken)
 
 is-big-data-block-requires : tie.Need-is-big-data-block-requires
 is-big-data-block-requires c κs = search needs
 
 returns-2 : tie.Need-returns-2
-returns-2 c = let a = c .before .before .before .before .before .args in head-sign (a .image .now) (a .position) (a .count) (a .large) (c .before .before .before .from .ensures .bytes) (c .before .before .if1 .left) (sym (c .before .is-big-data-block .ensures) ∙ not-true _ (c .if2 .taken))
+returns-2 c =
+    let a = c .before .before .before .before .before .args in
+    head-sign (a .image .now) (a .position) (a .count) (a .large) (c .before .before .before .from .ensures .bytes) (c .before .before .if1 .left) (sym (c .before .is-big-data-block .ensures) ∙ not-true _ (c .if2 .taken))
 
 bad-data-requires : tie.Need-bad-data-requires
 bad-data-requires c κs = search needs
 
 returns-3 : tie.Need-returns-3
-returns-3 c = let a = c .before .before .before .before .before .before .before .args in ap (λ (f : Refusal). refused (told f)) (c .bad-data .ensures) ∙ head-small (a .image .now) (a .position) (a .count) (a .large) (c .before .before .before .before .before .from .ensures .bytes) (c .before .before .before .before .if1 .left) (sym (c .before .before .before .is-big-data-block .ensures) ∙ not-false _ (c .before .before .if2 .left)) (not-true _ (c .before .if3 .taken))
+returns-3 c =
+    let a = c .before .before .before .before .before .before .before .args in
+    ap (λ (f : Refusal). refused (told f)) (c .bad-data .ensures) ∙ head-small (a .image .now) (a .position) (a .count) (a .large) (c .before .before .before .before .before .from .ensures .bytes) (c .before .before .before .before .if1 .left) (sym (c .before .before .before .is-big-data-block .ensures) ∙ not-false _ (c .before .before .if2 .left)) (not-true _ (c .before .if3 .taken))
 
 u16-at-requires : tie.Need-u16-at-requires
 u16-at-requires c κs = search needs
@@ -35,10 +41,14 @@ bad-data-requires-2 : tie.Need-bad-data-requires-2
 bad-data-requires-2 c κs = search needs
 
 returns-4 : tie.Need-returns-4
-returns-4 c = let a = c .before .before .before .before .before .before .before .before .before .args in ap (λ (f : Refusal). refused (told f)) (c .bad-data2 .ensures) ∙ head-number (a .image .now) (a .position) (a .count) (a .large) (c .before .before .before .before .before .before .before .from .ensures .bytes) (c .before .before .before .before .before .before .if1 .left) (sym (c .before .before .before .before .before .is-big-data-block .ensures) ∙ not-false _ (c .before .before .before .before .if2 .left)) (not-false _ (c .before .before .before .if3 .left)) (λ e. c .before .if4 .taken (c .before .before .u16-at .ensures ∙ e))
+returns-4 c =
+    let a = c .before .before .before .before .before .before .before .before .before .args in
+    ap (λ (f : Refusal). refused (told f)) (c .bad-data2 .ensures) ∙ head-number (a .image .now) (a .position) (a .count) (a .large) (c .before .before .before .before .before .before .before .from .ensures .bytes) (c .before .before .before .before .before .before .if1 .left) (sym (c .before .before .before .before .before .is-big-data-block .ensures) ∙ not-false _ (c .before .before .before .before .if2 .left)) (not-false _ (c .before .before .before .if3 .left)) (λ e. c .before .if4 .taken (c .before .before .u16-at .ensures ∙ e))
 
 returns-5 : tie.Need-returns-5
-returns-5 c = let a = c .before .before .before .before .before .before .before .before .args in head-whole (a .image .now) (a .position) (a .count) (a .large) (c .before .before .before .before .before .before .from .ensures .bytes) (c .before .before .before .before .before .if1 .left) (sym (c .before .before .before .before .is-big-data-block .ensures) ∙ not-false _ (c .before .before .before .if2 .left)) (not-false _ (c .before .before .if3 .left)) (sym (c .before .u16-at .ensures) ∙ c .if4 .left)
+returns-5 c =
+    let a = c .before .before .before .before .before .before .before .before .args in
+    head-whole (a .image .now) (a .position) (a .count) (a .large) (c .before .before .before .before .before .before .from .ensures .bytes) (c .before .before .before .before .before .if1 .left) (sym (c .before .before .before .before .is-big-data-block .ensures) ∙ not-false _ (c .before .before .before .if2 .left)) (not-false _ (c .before .before .if3 .left)) (sym (c .before .u16-at .ensures) ∙ c .if4 .left)
 
 pub check-head-spec : {M : Type 1} → statement M
 check-head-spec =

@@ -47,7 +47,10 @@ enum-known-refusal c = search needs
 
 returns : tie.Need-returns Inv-loop μ-loop
 unfolding entryOf
-returns c = let a = c .before .before .before .before .before .before .before .before .before .before .args in let l = c .before .before .before .before .before .before .before .loop in sym (judged-refused (a .base) (entryOf (a .list .now)) (a .count) (a .image .now) (l .i) (l .left) (c .before .before .before .before .before .before .loop-test .taken) (c .before .before .before .before .before .u32-at .result) (c .before .before .before .before .before .u32-at .ensures) (c .before .before .before .before .next-bytes .result) (c .before .before .before .before .next-bytes .ensures) (sym (c .before .before .before .check-cell .ensures) ∙ ap verdictPaper (c .before .refusal .given .1))) ∙ l .inv
+returns c =
+    let a = c .before .before .before .before .before .before .before .before .before .before .args in
+    let l = c .before .before .before .before .before .before .before .loop in
+    sym (judged-refused (a .base) (entryOf (a .list .now)) (a .count) (a .image .now) (l .i) (l .left) (c .before .before .before .before .before .before .loop-test .taken) (c .before .before .before .before .before .u32-at .result) (c .before .before .before .before .before .u32-at .ensures) (c .before .before .before .before .next-bytes .result) (c .before .before .before .before .next-bytes .ensures) (sym (c .before .before .before .check-cell .ensures) ∙ ap verdictPaper (c .before .refusal .given .1))) ∙ l .inv
 
 enum-told : tie.Need-enum-told Inv-loop μ-loop
 enum-told c = search needs
@@ -63,10 +66,16 @@ loop-less c = search needs
 
 loop-again : tie.Need-loop-again Inv-loop μ-loop
 unfolding entryOf
-loop-again c = let a = c .before .before .before .before .before .before .before .before .before .args in let l = c .before .before .before .before .before .before .loop in sym (judged-on (a .base) (entryOf (a .list .now)) (a .count) (a .image .now) (l .i) (l .left) (c .before .before .before .before .before .loop-test .taken) (c .before .before .before .before .u32-at .result) (c .before .before .before .before .u32-at .ensures) (c .before .before .before .next-bytes .result) (c .before .before .before .next-bytes .ensures) (sym (c .before .before .check-cell .ensures) ∙ ap verdictPaper (c .enum-told .given .1))) ∙ l .inv
+loop-again c =
+    let a = c .before .before .before .before .before .before .before .before .before .args in
+    let l = c .before .before .before .before .before .before .loop in
+    sym (judged-on (a .base) (entryOf (a .list .now)) (a .count) (a .image .now) (l .i) (l .left) (c .before .before .before .before .before .loop-test .taken) (c .before .before .before .before .u32-at .result) (c .before .before .before .before .u32-at .ensures) (c .before .before .before .next-bytes .result) (c .before .before .before .next-bytes .ensures) (sym (c .before .before .check-cell .ensures) ∙ ap verdictPaper (c .enum-told .given .1))) ∙ l .inv
 
 returns-2 : tie.Need-returns-2 Inv-loop μ-loop
-returns-2 c = let a = c .before .before .before .before .args in let l = c .before .loop in sym (judged-end (a .base) (entryOf (a .list .now)) (a .count) (a .image .now) (l .i) (l .left) (c .loop-test .left)) ∙ l .inv
+returns-2 c =
+    let a = c .before .before .before .before .args in
+    let l = c .before .loop in
+    sym (judged-end (a .base) (entryOf (a .list .now)) (a .count) (a .image .now) (l .i) (l .left) (c .loop-test .left)) ∙ l .inv
 
 pub check-segments-spec : {M : Type 1} → statement M
 check-segments-spec =

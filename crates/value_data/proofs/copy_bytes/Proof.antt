@@ -30,13 +30,19 @@ loop-less : tie.Need-loop-less Inv-loop μ-loop
 loop-less c = search needs
 
 loop-again : tie.Need-loop-again Inv-loop μ-loop
-loop-again c = let a = c .before .before .before .args in let l = c .before .before .loop in copying-step (a .out .now) (a .at) (a .bytes .now) (l .out) (l .i) (l .inv) (c .before .loop-test .taken)
+loop-again c =
+    let a = c .before .before .before .args in
+    let l = c .before .before .loop in
+    copying-step (a .out .now) (a .at) (a .bytes .now) (l .out) (l .i) (l .inv) (c .before .loop-test .taken)
 
 same-length : tie.Need-same-length Inv-loop μ-loop
 same-length c = c .before .loop .inv .long
 
 returns : tie.Need-returns Inv-loop μ-loop
-returns c = let a = c .before .before .args in let l = c .before .loop in copying-done (a .out .now) (a .at) (a .bytes .now) (l .out) (l .i) (l .inv) (c .loop-test .left)
+returns c =
+    let a = c .before .before .args in
+    let l = c .before .loop in
+    copying-done (a .out .now) (a .at) (a .bytes .now) (l .out) (l .i) (l .inv) (c .loop-test .left)
 
 pub copy-bytes-spec : {M : Type 1} → statement M
 copy-bytes-spec =

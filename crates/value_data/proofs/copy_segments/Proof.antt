@@ -12,7 +12,9 @@ abbrev μ-loop : tie.MeasureT-loop
 μ-loop image base list count size out₀ left₀ at₀ i₀ out left at i = count - i
 
 loop-holds : tie.Need-loop-holds Inv-loop μ-loop
-loop-holds c = let a = c .before .before .before .args in filling-start (a .image .now) (a .base) (entryOf (a .list .now)) (a .count) (a .size) (a .out .now) (c .before .before .before .pre)
+loop-holds c =
+    let a = c .before .before .before .args in
+    filling-start (a .image .now) (a .base) (entryOf (a .list .now)) (a .count) (a .size) (a .out .now) (c .before .before .before .pre)
 
 cast-u32-at : tie.Need-cast-u32-at Inv-loop μ-loop
 cast-u32-at c = search needs
@@ -40,7 +42,10 @@ cell-bytes-requires c κs = search needs
 
 copy-bytes-requires : tie.Need-copy-bytes-requires Inv-loop μ-loop
 unfolding entryOf
-copy-bytes-requires c κs = let a = c .before .before .before .before .before .before .before .before .before .args in let l = c .before .before .before .before .before .loop in filling-fits (a .image .now) (a .base) (entryOf (a .list .now)) (a .count) (a .size) (a .out .now) (l .out) (l .at) (l .left) (l .i) (l .inv) (c .before .before .before .before .loop-test .taken) (c .before .before .before .u32-at .result) (c .before .before .before .u32-at .ensures) (c .before .before .next-bytes .result) (c .before .before .next-bytes .ensures) _ (c .before .cell-bytes .ensures)
+copy-bytes-requires c κs =
+    let a = c .before .before .before .before .before .before .before .before .before .args in
+    let l = c .before .before .before .before .before .loop in
+    filling-fits (a .image .now) (a .base) (entryOf (a .list .now)) (a .count) (a .size) (a .out .now) (l .out) (l .at) (l .left) (l .i) (l .inv) (c .before .before .before .before .loop-test .taken) (c .before .before .before .u32-at .result) (c .before .before .before .u32-at .ensures) (c .before .before .next-bytes .result) (c .before .before .next-bytes .ensures) _ (c .before .cell-bytes .ensures)
 
 add-at : tie.Need-add-at Inv-loop μ-loop
 add-at c = search needs
@@ -56,13 +61,19 @@ loop-less c = search needs
 
 loop-again : tie.Need-loop-again Inv-loop μ-loop
 unfolding entryOf
-loop-again c = let a = c .before .before .before .before .before .before .before .before .before .before .before .before .args in let l = c .before .before .before .before .before .before .before .before .loop in rw (c .before .before .copy-bytes .ensures) (filling-step (a .image .now) (a .base) (entryOf (a .list .now)) (a .count) (a .size) (a .out .now) (l .out) (l .at) (l .left) (l .i) (l .inv) (c .before .before .before .before .before .before .before .loop-test .taken) (c .before .before .before .before .before .before .u32-at .result) (c .before .before .before .before .before .before .u32-at .ensures) (c .before .before .before .before .before .next-bytes .result) (c .before .before .before .before .before .next-bytes .ensures) _ (c .before .before .before .before .cell-bytes .ensures))
+loop-again c =
+    let a = c .before .before .before .before .before .before .before .before .before .before .before .before .args in
+    let l = c .before .before .before .before .before .before .before .before .loop in
+    rw (c .before .before .copy-bytes .ensures) (filling-step (a .image .now) (a .base) (entryOf (a .list .now)) (a .count) (a .size) (a .out .now) (l .out) (l .at) (l .left) (l .i) (l .inv) (c .before .before .before .before .before .before .before .loop-test .taken) (c .before .before .before .before .before .before .u32-at .result) (c .before .before .before .before .before .before .u32-at .ensures) (c .before .before .before .before .before .next-bytes .result) (c .before .before .before .before .before .next-bytes .ensures) _ (c .before .before .before .before .cell-bytes .ensures))
 
 same-length : tie.Need-same-length Inv-loop μ-loop
 same-length c = c .before .loop .inv .long
 
 returns : tie.Need-returns Inv-loop μ-loop
-returns c = let a = c .before .before .before .before .before .args in let l = c .before .loop in filling-done (a .image .now) (a .base) (entryOf (a .list .now)) (a .count) (a .size) (a .out .now) (l .out) (l .at) (l .left) (l .i) (l .inv) (c .loop-test .left)
+returns c =
+    let a = c .before .before .before .before .before .args in
+    let l = c .before .loop in
+    filling-done (a .image .now) (a .base) (entryOf (a .list .now)) (a .count) (a .size) (a .out .now) (l .out) (l .at) (l .left) (l .i) (l .inv) (c .loop-test .left)
 
 pub copy-segments-spec : {M : Type 1} → statement M
 copy-segments-spec =

@@ -12,13 +12,19 @@ bad-data-requires : tie.Need-bad-data-requires
 bad-data-requires c κs = search needs
 
 returns : tie.Need-returns
-returns c = let a = c .before .before .before .before .args in ap (λ (f : Refusal). refused (told f)) (c .bad-data .ensures) ∙ field-large (a .image .now) (a .base) (a .minor) (a .resident) (a .size) (a .offset) (c .before .before .if1 .taken) (c .before .if2 .taken)
+returns c =
+    let a = c .before .before .before .before .args in
+    ap (λ (f : Refusal). refused (told f)) (c .bad-data .ensures) ∙ field-large (a .image .now) (a .base) (a .minor) (a .resident) (a .size) (a .offset) (c .before .before .if1 .taken) (c .before .if2 .taken)
 
 returns-2 : tie.Need-returns-2
-returns-2 c = let a = c .before .before .before .args in in-field (a .image .now) (a .base) (a .minor) (a .resident) (a .size) (a .offset) (c .before .if1 .taken) (c .if2 .left)
+returns-2 c =
+    let a = c .before .before .before .args in
+    in-field (a .image .now) (a .base) (a .minor) (a .resident) (a .size) (a .offset) (c .before .if1 .taken) (c .if2 .left)
 
 returns-3 : tie.Need-returns-3
-returns-3 c = let a = c .before .before .before .args in no-bytes (a .image .now) (a .base) (a .minor) (a .resident) (a .size) (a .offset) (c .before .if1 .left) (c .if3 .taken)
+returns-3 c =
+    let a = c .before .before .before .args in
+    no-bytes (a .image .now) (a .base) (a .minor) (a .resident) (a .size) (a .offset) (c .before .if1 .left) (c .if3 .taken)
 
 add-position : tie.Need-add-position
 add-position c = search needs
@@ -30,7 +36,9 @@ find-segments-requires : tie.Need-find-segments-requires
 find-segments-requires c κs = search needs
 
 returns-4 : tie.Need-returns-4
-returns-4 c = let a = c .before .before .before .before .before .before .args in c .find-segments .ensures ∙ in-big (a .image .now) (a .base) (a .minor) (a .resident) (a .size) (a .offset) (c .before .before .before .before .if1 .left) (c .before .before .before .if3 .left) (sym (c .before .before .is-big .ensures) ∙ c .before .if4 .taken)
+returns-4 c =
+    let a = c .before .before .before .before .before .before .args in
+    c .find-segments .ensures ∙ in-big (a .image .now) (a .base) (a .minor) (a .resident) (a .size) (a .offset) (c .before .before .before .before .if1 .left) (c .before .before .before .if3 .left) (sym (c .before .before .is-big .ensures) ∙ c .before .if4 .taken)
 
 check-cell-requires : tie.Need-check-cell-requires
 check-cell-requires c κs = search needs
@@ -42,10 +50,14 @@ enum-told : tie.Need-enum-told
 enum-told c = search needs
 
 returns-5 : tie.Need-returns-5
-returns-5 c = let a = c .before .before .before .before .before .before .before .before .before .args in one-refused (a .image .now) (piece (a .offset + a .base) (a .size)) (sym (c .before .before .before .check-cell .ensures) ∙ ap verdictPaper (c .before .refusal .given .1)) ∙ in-cell (a .image .now) (a .base) (a .minor) (a .resident) (a .size) (a .offset) (c .before .before .before .before .before .before .before .if1 .left) (c .before .before .before .before .before .before .if3 .left) (sym (c .before .before .before .before .before .is-big .ensures) ∙ c .before .before .before .before .if4 .left)
+returns-5 c =
+    let a = c .before .before .before .before .before .before .before .before .before .args in
+    one-refused (a .image .now) (piece (a .offset + a .base) (a .size)) (sym (c .before .before .before .check-cell .ensures) ∙ ap verdictPaper (c .before .refusal .given .1)) ∙ in-cell (a .image .now) (a .base) (a .minor) (a .resident) (a .size) (a .offset) (c .before .before .before .before .before .before .before .if1 .left) (c .before .before .before .before .before .before .if3 .left) (sym (c .before .before .before .before .before .is-big .ensures) ∙ c .before .before .before .before .if4 .left)
 
 returns-6 : tie.Need-returns-6
-returns-6 c = let a = c .before .before .before .before .before .before .before .before .args in one-whole (a .image .now) (piece (a .offset + a .base) (a .size)) (sym (c .before .before .check-cell .ensures) ∙ ap verdictPaper (c .enum-told .given .1)) ∙ in-cell (a .image .now) (a .base) (a .minor) (a .resident) (a .size) (a .offset) (c .before .before .before .before .before .before .if1 .left) (c .before .before .before .before .before .if3 .left) (sym (c .before .before .before .before .is-big .ensures) ∙ c .before .before .before .if4 .left)
+returns-6 c =
+    let a = c .before .before .before .before .before .before .before .before .args in
+    one-whole (a .image .now) (piece (a .offset + a .base) (a .size)) (sym (c .before .before .check-cell .ensures) ∙ ap verdictPaper (c .enum-told .given .1)) ∙ in-cell (a .image .now) (a .base) (a .minor) (a .resident) (a .size) (a .offset) (c .before .before .before .before .before .before .if1 .left) (c .before .before .before .before .before .if3 .left) (sym (c .before .before .before .before .is-big .ensures) ∙ c .before .before .before .if4 .left)
 
 pub find-data-spec : {M : Type 1} → statement M
 find-data-spec =

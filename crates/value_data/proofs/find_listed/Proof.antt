@@ -33,13 +33,19 @@ enum-told-2 : tie.Need-enum-told-2
 enum-told-2 c = search needs
 
 returns : tie.Need-returns
-returns c = let a = c .before .before .before .before .before .args in list-refused (a .image .now) (a .base) (a .place) (a .size) (ap (λ (m : ℕ). holds (a .image .now) (piece (a .place) (4 * m))) (sym (c .before .before .before .before .before .pre)) ∙ sym (c .before .before .before .check-cell .ensures) ∙ ap verdictPaper (c .before .refusal .given .1))
+returns c =
+    let a = c .before .before .before .before .before .args in
+    list-refused (a .image .now) (a .base) (a .place) (a .size) (ap (λ (m : ℕ). holds (a .image .now) (piece (a .place) (4 * m))) (sym (c .before .before .before .before .before .pre)) ∙ sym (c .before .before .before .check-cell .ensures) ∙ ap verdictPaper (c .before .refusal .given .1))
 
 returns-2 : tie.Need-returns-2
-returns-2 c = let a = c .before .before .before .before .before .before .before .before .before .args in segments-refused (a .image .now) (a .base) (a .place) (a .size) (ap (λ (m : ℕ). holds (a .image .now) (piece (a .place) (4 * m))) (sym (c .before .before .before .before .before .before .before .before .before .pre)) ∙ sym (c .before .before .before .before .before .before .before .check-cell .ensures) ∙ ap verdictPaper (c .before .before .before .before .before .enum-told .given .1)) (ap (judged (a .image .now)) (these-segments (a .image .now) (a .base) (a .place) (a .size) (c .before .before .before .before .from .ensures .bytes) (c .before .before .before .before .before .before .before .before .before .pre)) ∙ sym (c .before .before .before .check-segments .ensures) ∙ ap verdictPaper (c .before .refusal2 .given .1))
+returns-2 c =
+    let a = c .before .before .before .before .before .before .before .before .before .args in
+    segments-refused (a .image .now) (a .base) (a .place) (a .size) (ap (λ (m : ℕ). holds (a .image .now) (piece (a .place) (4 * m))) (sym (c .before .before .before .before .before .before .before .before .before .pre)) ∙ sym (c .before .before .before .before .before .before .before .check-cell .ensures) ∙ ap verdictPaper (c .before .before .before .before .before .enum-told .given .1)) (ap (judged (a .image .now)) (these-segments (a .image .now) (a .base) (a .place) (a .size) (c .before .before .before .before .from .ensures .bytes) (c .before .before .before .before .before .before .before .before .before .pre)) ∙ sym (c .before .before .before .check-segments .ensures) ∙ ap verdictPaper (c .before .refusal2 .given .1))
 
 returns-3 : tie.Need-returns-3
-returns-3 c = let a = c .before .before .before .before .before .before .before .before .args in segments-whole (a .image .now) (a .base) (a .place) (a .size) (ap (λ (m : ℕ). holds (a .image .now) (piece (a .place) (4 * m))) (sym (c .before .before .before .before .before .before .before .before .pre)) ∙ sym (c .before .before .before .before .before .before .check-cell .ensures) ∙ ap verdictPaper (c .before .before .before .before .enum-told .given .1)) (ap (judged (a .image .now)) (these-segments (a .image .now) (a .base) (a .place) (a .size) (c .before .before .before .from .ensures .bytes) (c .before .before .before .before .before .before .before .before .pre)) ∙ sym (c .before .before .check-segments .ensures) ∙ ap verdictPaper (c .enum-told2 .given .1))
+returns-3 c =
+    let a = c .before .before .before .before .before .before .before .before .args in
+    segments-whole (a .image .now) (a .base) (a .place) (a .size) (ap (λ (m : ℕ). holds (a .image .now) (piece (a .place) (4 * m))) (sym (c .before .before .before .before .before .before .before .before .pre)) ∙ sym (c .before .before .before .before .before .before .check-cell .ensures) ∙ ap verdictPaper (c .before .before .before .before .enum-told .given .1)) (ap (judged (a .image .now)) (these-segments (a .image .now) (a .base) (a .place) (a .size) (c .before .before .before .from .ensures .bytes) (c .before .before .before .before .before .before .before .before .pre)) ∙ sym (c .before .before .check-segments .ensures) ∙ ap verdictPaper (c .enum-told2 .given .1))
 
 pub find-listed-spec : {M : Type 1} → statement M
 find-listed-spec =

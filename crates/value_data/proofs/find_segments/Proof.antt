@@ -37,10 +37,14 @@ find-listed-requires : tie.Need-find-listed-requires
 find-listed-requires c κs = search needs
 
 returns : tie.Need-returns
-returns c = let a = c .before .before .before .before .before .before .args in big-refused (a .image .now) (a .base) (a .position) (a .size) (ap (bigAt (a .image .now) (a .position)) (sym (c .before .before .before .before .segments-needed .ensures)) ∙ sym (c .before .before .before .check-big .ensures) ∙ ap verdictPaper (c .before .refusal .given .1))
+returns c =
+    let a = c .before .before .before .before .before .before .args in
+    big-refused (a .image .now) (a .base) (a .position) (a .size) (ap (bigAt (a .image .now) (a .position)) (sym (c .before .before .before .before .segments-needed .ensures)) ∙ sym (c .before .before .before .check-big .ensures) ∙ ap verdictPaper (c .before .refusal .given .1))
 
 returns-2 : tie.Need-returns-2
-returns-2 c = let a = c .before .before .before .before .before .before .before .before .args in c .find-listed .ensures ∙ ap (λ (o : ℕ). fromList (a .image .now) (a .base) (o + a .base) (a .size)) (c .before .u32-at .ensures ∙ ap (λ (s : List ℕ). word32 s 8) (c .before .before .from .ensures .bytes)) ∙ big-whole (a .image .now) (a .base) (a .position) (a .size) (ap (bigAt (a .image .now) (a .position)) (sym (c .before .before .before .before .before .before .segments-needed .ensures)) ∙ sym (c .before .before .before .before .before .check-big .ensures) ∙ ap verdictPaper (c .before .before .before .enum-told .given .1))
+returns-2 c =
+    let a = c .before .before .before .before .before .before .before .before .args in
+    c .find-listed .ensures ∙ ap (λ (o : ℕ). fromList (a .image .now) (a .base) (o + a .base) (a .size)) (c .before .u32-at .ensures ∙ ap (λ (s : List ℕ). word32 s 8) (c .before .before .from .ensures .bytes)) ∙ big-whole (a .image .now) (a .base) (a .position) (a .size) (ap (bigAt (a .image .now) (a .position)) (sym (c .before .before .before .before .before .before .segments-needed .ensures)) ∙ sym (c .before .before .before .before .before .check-big .ensures) ∙ ap verdictPaper (c .before .before .before .enum-told .given .1))
 
 pub find-segments-spec : {M : Type 1} → statement M
 find-segments-spec =

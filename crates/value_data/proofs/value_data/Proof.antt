@@ -20,21 +20,27 @@ cast-needed c = search needs
 
 returns : tie.Need-returns
 unfolding dataOf
-returns c = let a = c .before .before .before .before .before .before .before .args in data-full (a .image .now) (a .base) (a .minor) (a .size) (a .offset) (a .out .now) _ (sym (ap (findPaper (a .image .now) (a .base) (sizeOf (a .size))) (c .before .before .place .given .1)) ∙ c .before .before .before .before .find-data .ensures) (c .if1 .taken)
+returns c =
+    let a = c .before .before .before .before .before .before .before .args in
+    data-full (a .image .now) (a .base) (a .minor) (a .size) (a .offset) (a .out .now) _ (sym (ap (findPaper (a .image .now) (a .base) (sizeOf (a .size))) (c .before .before .place .given .1)) ∙ c .before .before .before .before .find-data .ensures) (c .if1 .taken)
 
 copy-data-requires : tie.Need-copy-data-requires
 copy-data-requires c κs = search needs
 
 returns-2 : tie.Need-returns-2
 unfolding dataOf
-returns-2 c = let a = c .before .before .before .before .before .before .args in data-refused (a .image .now) (a .base) (a .minor) (a .size) (a .offset) (a .out .now) _ (sym (ap (findPaper (a .image .now) (a .base) (sizeOf (a .size))) (c .before .refusal .given .1)) ∙ c .before .before .before .find-data .ensures)
+returns-2 c =
+    let a = c .before .before .before .before .before .before .args in
+    data-refused (a .image .now) (a .base) (a .minor) (a .size) (a .offset) (a .out .now) _ (sym (ap (findPaper (a .image .now) (a .base) (sizeOf (a .size))) (c .before .refusal .given .1)) ∙ c .before .before .before .find-data .ensures)
 
 same-length : tie.Need-same-length
 same-length c = search needs
 
 returns-3 : tie.Need-returns-3
 unfolding dataOf
-returns-3 c = let a = c .before .before .before .before .before .before .before .before .before .before .before .args in data-copied (a .image .now) (a .base) (a .minor) (a .size) (a .offset) (a .out .now) _ (sym (ap (findPaper (a .image .now) (a .base) (sizeOf (a .size))) (c .before .before .before .before .before .before .place .given .1)) ∙ c .before .before .before .before .before .before .before .before .find-data .ensures) (c .before .before .before .before .if1 .left) (c .before .before .copy-data .ensures)
+returns-3 c =
+    let a = c .before .before .before .before .before .before .before .before .before .before .before .args in
+    data-copied (a .image .now) (a .base) (a .minor) (a .size) (a .offset) (a .out .now) _ (sym (ap (findPaper (a .image .now) (a .base) (sizeOf (a .size))) (c .before .before .before .before .before .before .place .given .1)) ∙ c .before .before .before .before .before .before .before .before .find-data .ensures) (c .before .before .before .before .if1 .left) (c .before .before .copy-data .ensures)
 
 pub value-data-spec : {M : Type 1} → statement M
 value-data-spec =

@@ -7,17 +7,20 @@ use lib.ListN.{length}
 use Rattle.words.specs.Paper.{Paper, success, refused}
 use Rattle.words.proofs.Little.{little-same}
 use Rattle.sub_key_list.specs.Lists.{Listed, leaf, index, listAt, SameBehind}
-use Rattle.sub_key_list.specs.Leaves.{leafKept, onlyLeaf, leafAt}
+use Rattle.sub_key_list.specs.Leaves.{leafKept, leafDropped, onlyLeaf, leafAt}
 
-leaf-same : (s t : List ℕ) (p base size k pos : ℕ) → SameBehind s t p → p + 4 ≤ pos → leafKept s base size k pos ≡ leafKept t base size k pos
-unfolding leafKept
-leaf-same s t p base size zero pos h l = refl
+leaf-same : (s t : List ℕ) (p base size k pos : ℕ) → SameBehind s t p → p + 4 ≤ pos
+    → (leafKept s base size k pos ≡ leafKept t base size k pos) × (leafDropped s base size k pos ≡ leafDropped t base size k pos)
+unfolding leafKept leafDropped
+leaf-same s t p base size zero pos h l = (refl, refl)
 leaf-same s t p base size (suc k) pos h l =
-    rw (little-same 4 s t pos pos (λ i k. h .bytes (pos + i) (omega arith)), leaf-same s t p base size k (pos + size) h (omega arith))
+    let w = little-same 4 s t pos pos (λ i k. h .bytes (pos + i) (omega arith)) in
+    let r = leaf-same s t p base size k (pos + size) h (omega arith) in
+    (rw (w, r .0), rw (w, r .1))
 
 only-same : (s t : List ℕ) (base p : ℕ) (a : Paper Listed) → SameBehind s t p → onlyLeaf s base p a ≡ onlyLeaf t base p a
 unfolding onlyLeaf
-only-same s t base p (success (leaf kind size n)) h = rw (leaf-same s t p base size n (p + 8) h (omega arith))
+only-same s t base p (success (leaf kind size n)) h = let r = leaf-same s t p base size n (p + 8) h (omega arith) in rw (r .0, r .1)
 only-same s t base p (success (index n)) h = refl
 only-same s t base p (refused x) h = refl
 

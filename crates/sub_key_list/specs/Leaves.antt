@@ -17,23 +17,26 @@ unfoldable pub leafKept : List ℕ → ℕ → ℕ → ℕ → ℕ → List ℕ
 leafKept s base size zero pos = []
 leafKept s base size (suc left) pos = keep (word32 s pos + base) (leafKept s base size left (pos + size))
 
--- how many of them are dropped, by a count of its own
+-- document 02, order 2: "the number dropped .. is defined by its own count over the entries": 1 for an entry that is dropped
 unfoldable pub dropOne : ℕ → ℕ
 dropOne v = cond (ltb v 4294967296) 0 1
 
+-- and of `left` entries of `size` bytes each, the first at `pos`
 unfoldable pub leafDropped : List ℕ → ℕ → ℕ → ℕ → ℕ → ℕ
 leafDropped s base size zero pos = 0
 leafDropped s base size (suc left) pos = dropOne (word32 s pos + base) + leafDropped s base size left (pos + size)
 
--- a leaf list that is read: the bytes an entry, "leaf entries, dropped ones included", and the "offsets kept"
+-- a leaf list that is read: the bytes an entry, "leaf entries, dropped ones included", the "offsets kept", and "the number dropped"
 pub record Leaf : Type 0 where
   pub size : ℕ
   pub entries : ℕ
   pub kept : List ℕ
+  pub dropped : ℕ
 
 -- the leaf list at `p` with so many bytes an entry and so many entries: "entries at 8"
 abbrev pub leafOf : List ℕ → ℕ → ℕ → ℕ → ℕ → Leaf
-leafOf s base p size n = record { size = size; entries = n; kept = leafKept s base size n (p + 8) }
+leafOf s base p size n =
+    record { size = size; entries = n; kept = leafKept s base size n (p + 8); dropped = leafDropped s base size n (p + 8) }
 
 -- the leaf list at a position: the refusals of one list, then BAD SIGN, at its position, for an `ri` list
 unfoldable pub onlyLeaf : List ℕ → ℕ → ℕ → Paper Listed → Paper Leaf

@@ -1,5 +1,5 @@
 -- The answers of the walk from a key record and of one leaf list, each from what its code has found. Assumes nothing.
-use mathlib.Core.Path.{_≡_, refl, ap, sym, _∙_}
+use mathlib.Core.Path.{_≡_, refl, ap, sym, subst, _∙_}
 use mathlib.Core.List.{List, [], _∷_, _++_}
 use mathlib.Core.Bool.{Bool, true, false}
 use Prim.Native.Nat.{ℕ, _+_, _≤_, _<_}
@@ -20,12 +20,11 @@ use Rattle.sub_key_list.specs.Leaves.{leafOf, leafKept, onlyLeaf}
 use Rattle.sub_key_list.specs.declared.LeafList.{LeafList}
 use Rattle.sub_key_list.specs.declared.IndexList.{IndexList}
 use Rattle.sub_key_list.specs.declared.SubKeyList.the-variants as found
-use Rattle.sub_key_list.proofs.Leaves.{leaf-all}
-use Rattle.sub_key_walk.specs.Trace.{walkFrom, keptOf, entriesOf}
+use Rattle.sub_key_walk.specs.Trace.{walkFrom, keptOf, droppedOf}
 use Rattle.sub_key_walk.specs.Judge.{fault, judge}
 use Rattle.sub_key_walk.specs.Answers.{BUDGET-LIMIT, COUNT-LIMIT, none, measured, fullOf, answerOf, keptBy, walkTold, walkPaper, WalkAnswered}
 use Rattle.sub_key_walk.specs.Leaf.{readOf, fullLeaf, leafAnswerOf, keptFrom, LeafAnswered}
-use Rattle.sub_key_walk.specs.Walk.{Whole, Filled, Roomy}
+use Rattle.sub_key_walk.specs.Walk.{Whole, Filled, Bounded, Roomy}
 use Rattle.sub_key_walk.specs.declared.Counts.{Counts}
 use Rattle.sub_key_walk.specs.declared.WalkRefusal.{WalkRefusal}
 use Rattle.sub_key_walk.specs.declared.WalkAnswer.{WalkAnswer}
@@ -33,7 +32,6 @@ use Rattle.sub_key_walk.specs.declared.WalkAnswer.the-variants.{Read, Re
 use Rattle.sub_key_walk.specs.declared.LeafRead.{LeafRead}
 use Rattle.sub_key_walk.specs.declared.LeafAnswer.the-variants as leaf
 use Rattle.sub_key_walk.proofs.Judged.{judge-tally}
-use Rattle.sub_key_walk.proofs.Fills.{nothing-dropped}
 
 -- a row that is written from the first place on
 front-filled : (ks old : List ℕ) {r : ℕ} {new : List ℕ} → Filled ks old 0 r new → length ks ≤ length old → new ≡ ks ++ drop (length ks) old
@@ -68,15 +66,22 @@ module _ (s : List ℕ) (base count list budget : ℕ) where
   unfolding measured
   measured-walk d = rw (le-ltb BUDGET-LIMIT budget (d .small), le-ltb COUNT-LIMIT count (d .few), ne-eqb count 0 (d .some))
 
+  -- the walk from the counts that the code starts with
+  pub start-walk : {start : Counts} → start ≡ none → Started count budget → judge budget start (walkFrom s base list) ≡ measured s base count list budget
+  start-walk e d = ap (λ (st : Counts). judge budget st (walkFrom s base list)) e ∙ sym (measured-walk d)
+
+pub start-bounded : {budget : ℕ} {start : Counts} → start ≡ none → Bounded budget start
+start-bounded {budget} e = subst (Bounded budget) (sym e) (record { every = omega arith; some-entries = omega arith; some-lists = omega arith })
+
 pub kept-walk : (s : List ℕ) (base count list : ℕ) → (count ≡ 0 → ⊥) → keptBy s base count list ≡ keptOf (walkFrom s base list)
 unfolding keptBy
 kept-walk s base count list h = rw (ne-eqb count 0 h)
 
--- what a walk that is measured counts: the offsets that it keeps and, where there are some, the entries of its lists
+-- what a walk that is measured counts: the offsets that it keeps and, where there are some, the entries that its lists drop
 pub record Measured (s : List ℕ) (base count list : ℕ) (t : Counts) : Type 0 where
   pub keeps : t .kept ≡ length (keptBy s base count list)
   pub walked : 0 < t .kept → keptBy s base count list ≡ keptOf (walkFrom s base list)
-  pub entered : 0 < t .kept → t .entries ≡ entriesOf (walkFrom s base list)
+  pub drops : 0 < t .kept → t .dropped ≡ droppedOf (walkFrom s base list)
 
 pub what-measured : (s : List ℕ) (base count list budget : ℕ) (t : Counts) → measured s base count list budget ≡ success t → Measured s base count list t
 unfolding measured keptBy
@@ -88,13 +93,13 @@ what-measured s base count list budget t q = go (ltb BUDGET-LIMIT budget) (ltb C
     go false false true x y z =
         let e : none ≡ t = same-success (rw (x, y, z) at q) in
         let k : 0 ≡ t .kept = ap (λ (u : Counts). u .kept) e in
-        record { keeps = rw z (sym k); walked = λ h. absurd (let w : ⊥ = omega arith in w); entered = λ h. absurd (let w : ⊥ = omega arith in w) }
+        record { keeps = rw z (sym k); walked = λ h. absurd (let w : ⊥ = omega arith in w); drops = λ h. absurd (let w : ⊥ = omega arith in w) }
     go false false false x y z =
         let e = judge-tally budget (walkFrom s base list) t (rw (x, y, z) at q) in
         record {
           keeps = rw z (ap (λ (u : Counts). u .kept) e ∙ zero-add _);
           walked = λ h. rw z;
-          entered = λ h. ap (λ (u : Counts). u .entries) e ∙ zero-add _;
+          drops = λ h. ap (λ (u : Counts). u .dropped) e ∙ zero-add _;
         }
 
 -- ---- and with it
@@ -107,7 +112,7 @@ module _ (s : List ℕ) (base count list budget : ℕ) (old : List ℕ) (w : Wal
   walk-refused {f} q = answered-refused refl (given (ap walkPaper q) ∙ room-refused fullOf (length old) (walkTold f))
 
   module _ {t : Counts} (q : w ≡ Read t) where
-    pub walk-full : length old < t .kept → {f : WalkRefusal} → walkTold f ≡ noRoom (t .lists) (t .kept) (t .entries) → WalkAnswered s base count list budget old (Refused f) old
+    pub walk-full : length old < t .kept → {f : WalkRefusal} → walkTold f ≡ noRoom (t .lists) (t .kept) (t .entries) (t .dropped) → WalkAnswered s base count list budget old (Refused f) old
     walk-full h e = answered-refused (ap refused e) (given (ap walkPaper q) ∙ room-full fullOf (length old) t h)
 
     counted : Measured s base count list t
@@ -123,14 +128,10 @@ module _ (s : List ℕ) (base count list budget : ℕ) (old : List ℕ) (w : Wal
           answered-success refl fits (ap (λ (ks : List ℕ). ks ++ drop (length ks) old) (sym (no-row (keptBy s base count list) (omega arith))))
 
       module _ (some : 0 < t .kept) where
-        pub walk-roomy : {whole : Bool} → whole ≡ eqb (t .kept) (t .entries) → Roomy (walkFrom s base list) whole old 0
+        pub walk-roomy : {whole : Bool} → whole ≡ eqb (t .dropped) 0 → Roomy (walkFrom s base list) whole old 0
         walk-roomy z =
             let n : t .kept ≡ length (keptOf (walkFrom s base list)) = counted .keeps ∙ ap length (counted .walked some) in
-            let m : t .entries ≡ entriesOf (walkFrom s base list) = counted .entered some in
-            record {
-              room = omega arith;
-              all = λ e. let x : t .kept ≡ t .entries = eqb-true _ _ (sym z ∙ e) in nothing-dropped s base list (omega arith);
-            }
+            record { room = omega arith; all = λ e. sym (counted .drops some) ∙ eqb-true _ _ (sym z ∙ e) }
 
         pub walk-filled : {r : ℕ} {new : List ℕ} → Filled (keptOf (walkFrom s base list)) old 0 r new → WalkAnswered s base count list budget old (Read t) new
         walk-filled f =
@@ -162,19 +163,15 @@ module _ (s : List ℕ) (base p : ℕ) (old : List ℕ) where
     unfolding onSuccess onlyLeaf
     here = rw (← e) (ap (λ (c : LeafRead). inRoom fullLeaf (length old) (success c)) (sym d))
 
-    pub leaf-full : length old < t .kept → {f : WalkRefusal} → walkTold f ≡ noRoom 0 (t .kept) (t .entries) → LeafAnswered s base p old (leaf.Refused f) old
+    pub leaf-full : length old < t .kept → {f : WalkRefusal} → walkTold f ≡ noRoom 0 (t .kept) (t .entries) (t .dropped) → LeafAnswered s base p old (leaf.Refused f) old
     leaf-full h q = answered-refused (ap refused q) (here ∙ room-full fullLeaf (length old) t h)
 
     module _ (h : t .kept ≤ length old) where
       pub leaf-roomy : 0 + length row ≤ length old
       leaf-roomy = let k = kept-row in omega arith
 
-      pub leaf-whole : {whole : Bool} → whole ≡ eqb (t .kept) (t .entries) → Whole s base (l .«entry_size») (l .count) (p + 8) whole
-      leaf-whole z q =
-          let k = kept-row in
-          let n : t .entries ≡ l .count = ap (λ (c : LeafRead). c .entries) d in
-          let x : t .kept ≡ t .entries = eqb-true _ _ (sym z ∙ q) in
-          omega (arith, leaf-all s base (l .«entry_size») (l .count) (p + 8))
+      pub leaf-whole : {whole : Bool} → whole ≡ eqb (t .dropped) 0 → Whole s base (l .«entry_size») (l .count) (p + 8) whole
+      leaf-whole z q = sym (ap (λ (c : LeafRead). c .dropped) d) ∙ eqb-true _ _ (sym z ∙ q)
 
       pub leaf-filled : {r : ℕ} {new : List ℕ} → Filled row old 0 r new → LeafAnswered s base p old (leaf.Read t) new
       unfolding onlyLeaf keptFrom

@@ -61,7 +61,7 @@ lists-reported s base count list budget room = room-lists room (measured s base 
 -- ---- "For a subkey count from 1 to 1,048,576 and a budget up to 65,536, the subkey walk succeeds exactly when .."
 
 tally-counts : (es : List Event) → tally none es ≡ countsOf es
-tally-counts es = counts-path (zero-add _) (zero-add _) (zero-add _)
+tally-counts es = counts-path (zero-add _) (zero-add _) (zero-add _) (zero-add _)
 
 module _ (s : List ℕ) (base count list budget room : ℕ) (d : Started count budget) where
   abbrev reached : List Event

@@ -8,20 +8,17 @@ use native.Mathlib.Omega.{arith}
 use lib.ListN.{length, length-append}
 use lib.Seq.{sets, length-sets}
 use Rattle.words.specs.Words.{word32}
-use Rattle.words.specs.Paper.{Paper, success, refused}
-use Rattle.sub_key_list.specs.Lists.{Listed, listAt, listPaper}
-use Rattle.sub_key_list.specs.Lists as lists
-use Rattle.sub_key_list.specs.Leaves.{leafKept}
+use Rattle.words.specs.Paper.{Paper}
+use Rattle.sub_key_list.specs.Lists.{Listed, listPaper}
+use Rattle.sub_key_list.specs.Leaves.{leafKept, leafDropped}
 use Rattle.sub_key_list.specs.declared.LeafList.{LeafList}
 use Rattle.sub_key_list.specs.declared.IndexList.{IndexList}
 use Rattle.sub_key_list.specs.declared.SubKeyList.the-variants as found
 use Rattle.words.specs.declared.Refusal.{Refusal}
-use Rattle.sub_key_list.proofs.Leaves.{sets-append, leaf-all}
-use Rattle.sub_key_walk.specs.Trace.{Event, deep, index, leaf, each, below, trace, ordinary, walkFrom, keptIn, keptOf, entriesIn, entriesOf}
-use Rattle.sub_key_walk.specs.Free.{All}
-use Rattle.sub_key_walk.specs.Walk.{Whole, Filled, KeepsAll, Roomy}
-use Rattle.sub_key_walk.proofs.Walks.{trace-deep, trace-in, each-next, each-none, kept-append}
-use Rattle.sub_key_walk.proofs.Traces.{all-append, eventOf, trace-imp}
+use Rattle.sub_key_list.proofs.Leaves.{sets-append}
+use Rattle.sub_key_walk.specs.Trace.{Event, each, below, trace, keptIn, keptOf, droppedIn, droppedOf}
+use Rattle.sub_key_walk.specs.Walk.{Whole, Filled, Roomy}
+use Rattle.sub_key_walk.proofs.Walks.{trace-deep, trace-in, each-next, each-none, kept-append, dropped-append}
 
 -- ---- room for a row of lists is room for its front, and then for the rest
 
@@ -30,13 +27,15 @@ module _ (xs ys : List Event) {whole : Bool} {old : List ℕ} {place : ℕ} (v :
   lengths = ap length (kept-append xs ys) ∙ length-append (keptOf xs) (keptOf ys)
 
   roomy-front : Roomy xs whole old place
-  roomy-front = let r = v .room in record { room = omega (arith, lengths); all = λ e. all-append KeepsAll xs ys (v .all e) .0 }
+  roomy-front =
+      let r = v .room in
+      record { room = omega (arith, lengths); all = λ e. let a = v .all e in omega (arith, dropped-append xs ys) }
 
   roomy-rest : {r : ℕ} {new : List ℕ} → Filled (keptOf xs) old place r new → length new ≡ length old → Roomy ys whole new r
   roomy-rest f l =
       let r = v .room in
       let n = f .next in
-      record { room = omega (arith, lengths); all = λ e. all-append KeepsAll xs ys (v .all e) .1 }
+      record { room = omega (arith, lengths); all = λ e. let a = v .all e in omega (arith, dropped-append xs ys) }
 
 -- ---- the loop over the entries of an `ri` list
 
@@ -116,15 +115,16 @@ module _ (hd : ℕ → ℕ → Paper Listed) (levels : ℕ) (s : List ℕ) (base
     unfolding below keptOf keptIn
     kept-leaf = rw (trace-in hd levels s base offset h, e) (append-nil _)
 
+    dropped-leaf : droppedOf (trace hd levels s base offset) ≡ leafDropped s base (l .«entry_size») (l .count) (offset + base + 8)
+    unfolding below droppedOf droppedIn
+    dropped-leaf = rw (trace-in hd levels s base offset h, e) (omega arith)
+
     module _ {whole : Bool} {old : List ℕ} {place : ℕ} (v : Roomy (trace hd levels s base offset) whole old place) where
       pub leaf-room : place + length row ≤ length old
       leaf-room = rw kept-leaf at (v .room)
 
       pub leaf-whole : Whole s base (l .«entry_size») (l .count) (offset + base + 8) whole
-      unfolding below All keptIn entriesIn
-      leaf-whole q =
-          let a : l .count ≤ length row = (rw (trace-in hd levels s base offset h, e) at (v .all q)) .0 in
-          omega (arith, leaf-all s base (l .«entry_size») (l .count) (offset + base + 8))
+      leaf-whole q = sym dropped-leaf ∙ v .all q
 
     pub fill-leaf : {old : List ℕ} {place r : ℕ} {new : List ℕ} → Filled row old place r new → Filled (keptOf (trace hd levels s base offset)) old place r new
     fill-leaf f = rw kept-leaf f
@@ -137,53 +137,12 @@ module _ (hd : ℕ → ℕ → Paper Listed) (levels : ℕ) (s : List ℕ) (base
     unfolding below keptOf keptIn
     kept-index = rw (trace-in hd levels s base offset h, e)
 
+    dropped-index : droppedOf (trace hd levels s base offset) ≡ droppedOf named
+    unfolding below droppedOf droppedIn
+    dropped-index = rw (trace-in hd levels s base offset h, e) (omega arith)
+
     pub index-room : {whole : Bool} {old : List ℕ} {place : ℕ} → Roomy (trace hd levels s base offset) whole old place → Roomy named whole old place
-    unfolding below All
-    index-room v = record { room = rw kept-index at (v .room); all = λ q. (rw (trace-in hd levels s base offset h, e) at (v .all q)) .1 }
+    index-room v = record { room = rw kept-index at (v .room); all = λ q. sym dropped-index ∙ v .all q }
 
     pub fill-index : {old : List ℕ} {place r : ℕ} {new : List ℕ} → Filled (keptOf named) old place r new → Filled (keptOf (trace hd levels s base offset)) old place r new
     fill-index f = rw kept-index f
-
--- ---- where the counts of a whole walk say that nothing is dropped, no list of it drops anything
-
--- a list keeps no more offsets than it has entries
-abbrev KeepsFew : Event → Type 0
-KeepsFew e = length (keptIn e) ≤ entriesIn e
-
-abbrev Any : Event → Type 0
-Any e = Unit {0}
-
-any-all : (es : List Event) → All Any es
-unfolding All
-any-all [] = tt
-any-all (e ∷ es) = (tt, any-all es)
-
-few-at : (s : List ℕ) (base p : ℕ) (h : Paper Listed) → listAt s p ≡ h → Any (eventOf s base p h) → KeepsFew (eventOf s base p h)
-unfolding keptIn entriesIn
-few-at s base p (success (lists.leaf k z n)) e a = omega (arith, leaf-all s base z n (p + 8))
-few-at s base p (success (lists.index n)) e a = omega arith
-few-at s base p (refused t) e a = omega arith
-
-few-deep : (p : ℕ) → Any (deep p) → KeepsFew (deep p)
-unfolding keptIn entriesIn
-few-deep p a = omega arith
-
-few-all : (s : List ℕ) (base levels offset : ℕ) → All KeepsFew (trace (ordinary s) levels s base offset)
-few-all s base levels offset = trace-imp Any KeepsFew s base few-deep (few-at s base) levels offset (any-all _)
-
-few-sum : (es : List Event) → All KeepsFew es → length (keptOf es) ≤ entriesOf es
-unfolding All keptOf entriesOf
-few-sum [] a = omega arith
-few-sum (e ∷ es) a = let h : length (keptIn e) ≤ entriesIn e = a .0 in omega (arith, few-sum es (a .1), length-append (keptIn e) (keptOf es))
-
-keeps-all : (es : List Event) → All KeepsFew es → entriesOf es ≤ length (keptOf es) → All KeepsAll es
-unfolding All keptOf entriesOf
-keeps-all [] a h = tt
-keeps-all (e ∷ es) a h =
-    let f : length (keptIn e) ≤ entriesIn e = a .0 in
-    let n = length-append (keptIn e) (keptOf es) in
-    let m = few-sum es (a .1) in
-    (omega arith, keeps-all es (a .1) (omega arith))
-
-pub nothing-dropped : (s : List ℕ) (base list : ℕ) → entriesOf (walkFrom s base list) ≤ length (keptOf (walkFrom s base list)) → All KeepsAll (walkFrom s base list)
-nothing-dropped s base list h = keeps-all (walkFrom s base list) (few-all s base 8 list) h

@@ -9,7 +9,7 @@ use lib.Dec.{eqb}
 use lib.ListN.{length, length-append}
 use Rattle.words.specs.Paper.{Paper, success, refused}
 use Rattle.words.proofs.Papers.{success-refused, same-success}
-use Rattle.sub_key_walk.specs.Trace.{Event, deep, bad, index, leaf, keptIn, keptOf, listsIn, listsOf, entriesOf}
+use Rattle.sub_key_walk.specs.Trace.{Event, deep, bad, index, leaf, keptIn, keptOf, listsIn, listsOf, entriesOf, droppedOf}
 use Rattle.sub_key_walk.specs.Judge.{fault, counts, counted, inBudget, one, after, judge}
 use Rattle.sub_key_walk.specs.Answers.{none}
 use Rattle.sub_key_walk.specs.Free.{All, front, listsBy}
@@ -39,15 +39,15 @@ lists-all (e ∷ es) g = omega (arith, good-one e (g .0), lists-all es (g .1))
 
 -- all counts after a row of lists
 abbrev pub tally : Counts → List Event → Counts
-tally st es = counts (st .kept + length (keptOf es)) (st .lists + listsOf es) (st .entries + entriesOf es)
+tally st es = counts (st .kept + length (keptOf es)) (st .lists + listsOf es) (st .entries + entriesOf es) (st .dropped + droppedOf es)
 
 tally-none : (st : Counts) → st ≡ tally st []
-unfolding keptOf listsOf entriesOf
-tally-none st = counts-path (omega arith) (omega arith) (omega arith)
+unfolding keptOf listsOf entriesOf droppedOf
+tally-none st = counts-path (omega arith) (omega arith) (omega arith) (omega arith)
 
 tally-next : (st : Counts) (e : Event) (es : List Event) → tally (counted st e) es ≡ tally st (e ∷ es)
-unfolding counted keptOf listsOf entriesOf
-tally-next st e es = counts-path (omega (arith, length-append (keptIn e) (keptOf es))) (omega arith) (omega arith)
+unfolding counted keptOf listsOf entriesOf droppedOf
+tally-next st e es = counts-path (omega (arith, length-append (keptIn e) (keptOf es))) (omega arith) (omega arith) (omega arith)
 
 -- ---- one list
 

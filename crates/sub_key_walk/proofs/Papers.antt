@@ -15,7 +15,7 @@ use Rattle.sub_key_walk.specs.declared.LeafAnswer.{LeafAnswer}
 use Rattle.sub_key_walk.specs.declared.LeafAnswer.the-variants as leaf
 
 same-fault : {f g : WalkRefusal} → walkTold f ≡ walkTold g → f ≡ g
-same-fault e = λ i. record { number = e i .number; position = e i .position; lists = e i .lists; places = e i .places; entries = e i .entries }
+same-fault e = λ i. record { number = e i .number; position = e i .position; lists = e i .lists; places = e i .places; entries = e i .entries; dropped = e i .dropped }
 
 pub paper-injective : (a b : WalkAnswer) → walkPaper a ≡ walkPaper b → a ≡ b
 paper-injective (Read t) (Read u) e = ap Read (same-success e)

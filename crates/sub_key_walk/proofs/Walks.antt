@@ -20,12 +20,14 @@ use Rattle.sub_key_list.specs.declared.IndexList.{IndexList}
 use Rattle.sub_key_list.specs.declared.SubKeyList.{SubKeyList}
 use Rattle.sub_key_list.specs.declared.SubKeyList.the-variants as found
 use Rattle.words.specs.declared.Refusal.{Refusal}
-use Rattle.sub_key_list.proofs.Leaves.{leaf-few}
-use Rattle.sub_key_walk.specs.Trace.{Event, deep, bad, index, leaf, each, below, trace, keptIn, keptOf, listsIn, entriesIn}
+use Rattle.sub_key_list.proofs.Leaves.{leaf-all}
+use Rattle.sub_key_walk.specs.Trace.{Event, deep, bad, index, leaf, each, below, trace, keptIn, keptOf, listsIn, entriesIn, droppedIn, droppedOf}
 use Rattle.sub_key_walk.specs.Judge.{fault, counts, counted, inBudget, one, after, judge}
-use Rattle.sub_key_walk.specs.Answers.{walkPaper}
-use Rattle.sub_key_walk.specs.Walk.{Bounded, withLeaf, Walk}
+use Rattle.sub_key_walk.specs.Answers.{BUDGET-LIMIT, walkPaper}
+use Rattle.sub_key_walk.specs.Leaf.{readOf}
+use Rattle.sub_key_walk.specs.Walk.{Bounded, Small, withIndex, withLeaf, Walk}
 use Rattle.sub_key_walk.specs.declared.Counts.{Counts}
+use Rattle.sub_key_walk.specs.declared.LeafRead.{LeafRead}
 use Rattle.sub_key_walk.specs.declared.WalkRefusal.{WalkRefusal}
 use Rattle.sub_key_walk.specs.declared.WalkAnswer.{WalkAnswer}
 use Rattle.sub_key_walk.specs.declared.WalkAnswer.the-variants.{Read, Refused}
@@ -59,6 +61,11 @@ pub kept-append : (xs ys : List Event) → keptOf (xs ++ ys) ≡ keptOf xs ++ ke
 unfolding keptOf
 kept-append [] ys = refl
 kept-append (e ∷ xs) ys = ap (λ (ks : List ℕ). keptIn e ++ ks) (kept-append xs ys) ∙ sym (append-assoc (keptIn e) (keptOf xs) (keptOf ys))
+
+pub dropped-append : (xs ys : List Event) → droppedOf (xs ++ ys) ≡ droppedOf xs + droppedOf ys
+unfolding droppedOf
+dropped-append [] ys = omega arith
+dropped-append (e ∷ xs) ys = omega (arith, dropped-append xs ys)
 
 -- ---- judging
 
@@ -171,16 +178,12 @@ walk-success w q = sym (w .answer) ∙ ap walkPaper q
 
 -- ---- the counts
 
-pub counts-path : {a b : Counts} → a .kept ≡ b .kept → a .lists ≡ b .lists → a .entries ≡ b .entries → a ≡ b
-counts-path p q r = λ i. record { kept = p i; lists = q i; entries = r i }
+pub counts-path : {a b : Counts} → a .kept ≡ b .kept → a .lists ≡ b .lists → a .entries ≡ b .entries → a .dropped ≡ b .dropped → a ≡ b
+counts-path p q r d = λ i. record { kept = p i; lists = q i; entries = r i; dropped = d i }
 
--- an `ri` list counts as a list and gives nothing else
-abbrev pub passed : Counts → Counts
-passed st = counts (st .kept) (st .lists + 1) (st .entries)
-
-passed-is : (st : Counts) (p n : ℕ) → passed st ≡ counted st (index p n)
-unfolding counted keptIn listsIn entriesIn
-passed-is st p n = counts-path (omega arith) refl (omega arith)
+index-counted : (st : Counts) (p n : ℕ) → withIndex st ≡ counted st (index p n)
+unfolding counted keptIn listsIn entriesIn droppedIn
+index-counted st p n = counts-path (omega arith) refl (omega arith) (omega arith)
 
 -- ---- the loop over the entries of an `ri` list
 
@@ -229,6 +232,10 @@ module _ (hd : ℕ → ℕ → Paper Listed) (budget : ℕ) (st : Counts) (level
       → Walk budget st (trace hd levels s base offset) r
   walk-spent e h z = walk-refused budget st (trace hd levels s base offset) e (judge-spent hd budget st levels s base offset h z)
 
+-- what a leaf list gives is small
+pub leaf-small : (s : List ℕ) (base p size n : ℕ) {t : LeafRead} → n < 65536 → t ≡ readOf (leafOf s base p size n) → Small t
+leaf-small s base p size n m d = subst Small (sym d) (record { every = leaf-all s base size n (p + 8); few = omega arith })
+
 -- a list is reached within the levels and the budget, at small counts, and `g` is what the code finds there
 pub record Reached (hd : ℕ → ℕ → Paper Listed) (budget : ℕ) (st : Counts) (levels : ℕ) (s : List ℕ) (base offset : ℕ) (g : SubKeyList) : Type 0 where
   pub deeper : levels ≡ 0 → ⊥
@@ -243,42 +250,50 @@ module _ {hd : ℕ → ℕ → Paper Listed} {budget : ℕ} {st : Counts} {level
       walk-refused budget st (trace hd levels s base offset) e
       (judge-bad hd budget st levels s base offset (x .deeper) (x .unspent) _ (x .is))
 
-  -- a leaf list that is counted keeps the counts small
-  pub walk-leaf : {l : LeafList} → Reached hd budget st levels s base offset (found.Leaf l) → l .count < 65536
-      → {w : WalkAnswer} → w ≡ Read (withLeaf st (leafOf s base (offset + base) (l .«entry_size») (l .count))) → Walk budget st (trace hd levels s base offset) w
-  unfolding counted keptIn listsIn entriesIn
-  walk-leaf {l} x m q =
+  -- another list can be counted
+  pub reached-small : {g : SubKeyList} → Reached hd budget st levels s base offset g → budget ≤ BUDGET-LIMIT → Bounded 65535 st
+  reached-small x m =
       let u : st .lists ≡ budget → ⊥ = x .unspent in
       let few : Bounded budget st = x .few in
-      let k = leaf-few s base (l .«entry_size») (l .count) (offset + base + 8) in
-      walk-read budget st (trace hd levels s base offset) _ q
-      (judge-leaf hd budget st levels s base offset (x .deeper) (x .unspent) (l .signature) (l .«entry_size») (l .count) (x .is))
-      (record { some-kept = omega arith; some-entries = omega arith; some-lists = omega arith })
+      record { every = omega arith; some-entries = omega arith; some-lists = omega arith }
 
-  module _ {l : IndexList} (x : Reached hd budget st levels s base offset (found.Index l)) where
-    pub index-bounded : Bounded budget (passed st)
+  -- a leaf list that is counted keeps the counts small
+  pub walk-leaf : {l : LeafList} → Reached hd budget st levels s base offset (found.Leaf l) → l .count < 65536
+      → {t : LeafRead} → t ≡ readOf (leafOf s base (offset + base) (l .«entry_size») (l .count))
+      → {w : WalkAnswer} → w ≡ Read (withLeaf st t) → Walk budget st (trace hd levels s base offset) w
+  unfolding counted keptIn listsIn entriesIn droppedIn
+  walk-leaf {l} x m d q =
+      let u : st .lists ≡ budget → ⊥ = x .unspent in
+      let few : Bounded budget st = x .few in
+      let k = leaf-all s base (l .«entry_size») (l .count) (offset + base + 8) in
+      walk-read budget st (trace hd levels s base offset) _ (q ∙ ap (λ (r : LeafRead). Read (withLeaf st r)) d)
+      (judge-leaf hd budget st levels s base offset (x .deeper) (x .unspent) (l .signature) (l .«entry_size») (l .count) (x .is))
+      (record { every = omega arith; some-entries = omega arith; some-lists = omega arith })
+
+  -- the lists below an `ri` list, from the counts that the code builds
+  module _ {l : IndexList} (x : Reached hd budget st levels s base offset (found.Index l)) {start : Counts} (q : start ≡ withIndex st) where
+    pub index-bounded : Bounded budget start
     index-bounded =
         let u : st .lists ≡ budget → ⊥ = x .unspent in
         let few : Bounded budget st = x .few in
-        record { some-kept = omega arith; some-entries = omega arith; some-lists = omega arith }
+        subst (Bounded budget) (sym q) (record { every = omega arith; some-entries = omega arith; some-lists = omega arith })
 
-    -- the lists below an `ri` list, from the counts that the code builds
-    below-index : judge budget (passed st) (each (trace hd (levels - 1) s base) s (l .count) (offset + base + 8)) ≡ judge budget st (trace hd levels s base offset)
+    below-index : judge budget start (each (trace hd (levels - 1) s base) s (l .count) (offset + base + 8)) ≡ judge budget st (trace hd levels s base offset)
     below-index =
-        ap (λ (c : Counts). judge budget c (each (trace hd (levels - 1) s base) s (l .count) (offset + base + 8))) (passed-is st (offset + base) (l .count))
+        ap (λ (c : Counts). judge budget c (each (trace hd (levels - 1) s base) s (l .count) (offset + base + 8))) (q ∙ index-counted st (offset + base) (l .count))
         ∙ judge-index hd budget st levels s base offset (x .deeper) (x .unspent) (l .count) (x .is)
 
     module _ {sum : Counts} {pos i : ℕ}
-        (v : Indexing budget (trace hd (levels - 1) s base) s (l .count) (offset + base + 8) (passed st) sum pos i) where
+        (v : Indexing budget (trace hd (levels - 1) s base) s (l .count) (offset + base + 8) start sum pos i) where
       pub walk-index : l .count ≤ i → {w : WalkAnswer} → w ≡ Read sum → Walk budget st (trace hd levels s base offset) w
-      walk-index m q =
-          walk-read budget st (trace hd levels s base offset) sum q
-          (indexing-answer budget (trace hd (levels - 1) s base) s (l .count) (offset + base + 8) (passed st) sum pos i v m ∙ below-index)
+      walk-index m e =
+          walk-read budget st (trace hd levels s base offset) sum e
+          (indexing-answer budget (trace hd (levels - 1) s base) s (l .count) (offset + base + 8) start sum pos i v m ∙ below-index)
           (v .few)
 
       pub walk-index-refused : i < l .count → {next : ℕ} → next ≡ word32 s pos → {w : WalkAnswer} {f : WalkRefusal}
           → Walk budget sum (trace hd (levels - 1) s base next) w → w ≡ Refused f → Walk budget st (trace hd levels s base offset) (Refused f)
       walk-index-refused m {next} d {w} {f} y e =
           walk-refused budget st (trace hd levels s base offset) refl
-          (indexing-refused budget (trace hd (levels - 1) s base) s (l .count) (offset + base + 8) (passed st) sum pos i v m next d y (ap walkPaper e)
+          (indexing-refused budget (trace hd (levels - 1) s base) s (l .count) (offset + base + 8) start sum pos i v m next d y (ap walkPaper e)
           ∙ below-index)

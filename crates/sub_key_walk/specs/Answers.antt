@@ -24,7 +24,7 @@ COUNT-LIMIT = 1048576
 
 -- no list is read yet
 abbrev pub none : Counts
-none = counts 0 0 0
+none = counts 0 0 0 0
 
 -- "From a key record: 13, then 7; count 0 succeeds and reads nothing", then the walk: all refusals but 9
 unfoldable pub measured : List ℕ → ℕ → ℕ → ℕ → ℕ → Paper Counts
@@ -34,9 +34,9 @@ measured s base count list budget =
     (cond (eqb count 0) (success none)
     (judge budget none (walkFrom s base list))))
 
--- "NO ROOM also returns the places needed and the walk's entry count", and the lists read
+-- "NO ROOM also returns the places needed and the walk's entry count", the lists read and, "with 9, given too", the number dropped
 abbrev pub fullOf : Counts → Told
-fullOf st = noRoom (st .lists) (st .kept) (st .entries)
+fullOf st = noRoom (st .lists) (st .kept) (st .entries) (st .dropped)
 
 -- "9 comes after all others"
 abbrev pub answerOf : List ℕ → ℕ → ℕ → ℕ → ℕ → ℕ → Paper Counts
@@ -48,7 +48,7 @@ keptBy s base count list = cond (eqb count 0) [] (keptOf (walkFrom s base list))
 
 -- what document 01 says of the code's answer
 abbrev pub walkTold : WalkRefusal → Told
-walkTold f = tell (f .number) (f .position) (f .lists) (f .places) (f .entries)
+walkTold f = tell (f .number) (f .position) (f .lists) (f .places) (f .entries) (f .dropped)
 
 abbrev pub walkPaper : WalkAnswer → Paper Counts
 walkPaper (Read st) = success st

@@ -4,12 +4,13 @@ use mathlib.Core.List.{List, [], _∷_}
 use Prim.Native.Nat.{ℕ}
 use lib.ListN.{take}
 use Rattle.words.specs.Refusals.{BAD-SIGN, CUT-SHORT, TOO-DEEP, OUT-OF-STEPS}
-use Rattle.words.specs.Paper.{success, refused, by}
+use Rattle.words.specs.Paper.{success, refused, by, noRoom}
 use Rattle.words.specs.Buffers.{bufferAfter}
 use Rattle.sub_key_list.specs.Lists.{LI, LH, listAt}
 use Rattle.sub_key_list.specs.Lists as lists
 use Rattle.sub_key_walk.specs.Judge.{fault, counts}
 use Rattle.sub_key_walk.specs.Answers.{answerOf, keptBy}
+use Rattle.sub_key_walk.specs.Leaf.{leafAnswerOf}
 
 -- a list of a kind (its two letters), a count, and its entries' bytes
 abbrev pub list : ℕ → ℕ → ℕ → List ℕ → List ℕ
@@ -46,14 +47,18 @@ pub record Examples : Type 0 where
   pub lh-list : listAt lh 16 ≡ success (lists.leaf LH 8 2)
   pub ri-list : listAt ri 0 ≡ success (lists.index 1)
   -- the walk
-  pub li-answer : answerOf li 0 2 0 1024 4096 ≡ success (counts 2 1 2)
+  pub li-answer : answerOf li 0 2 0 1024 4096 ≡ success (counts 2 1 2 0)
   pub li-kept : keptBy li 0 2 0 ≡ 16 ∷ 32 ∷ []
   pub li-buffer : bufferAfter (answerOf li 0 2 0 1024 3) (keptBy li 0 2 0) (7 ∷ 7 ∷ 7 ∷ []) ≡ 16 ∷ 32 ∷ 7 ∷ []
-  pub empty-answer : answerOf li-empty 0 2 0 1024 4096 ≡ success (counts 0 1 0)
+  pub empty-answer : answerOf li-empty 0 2 0 1024 4096 ≡ success (counts 0 1 0 0)
   pub empty-kept : keptBy li-empty 0 2 0 ≡ []
   pub cut-answer : answerOf (take 7 li) 0 2 0 1024 4096 ≡ refused (by CUT-SHORT 0)
   pub unknown-answer : answerOf lx 0 2 0 1024 4096 ≡ refused (by BAD-SIGN 0)
-  pub lh-answer : answerOf lh 16 2 0 1024 4096 ≡ success (counts 1 1 2)
+  pub lh-answer : answerOf lh 16 2 0 1024 4096 ≡ success (counts 1 1 2 1)
   pub lh-kept : keptBy lh 16 2 0 ≡ 0xFFFFFFFF ∷ []
   pub deep-answer : answerOf ri 0 1 0 8 4096 ≡ refused (fault TOO-DEEP 0 8)
   pub spent-answer : answerOf ri 0 1 0 7 4096 ≡ refused (fault OUT-OF-STEPS 0 7)
+  -- document 02, order 2: the `lh` list drops 1 of its 2 entries, and NO ROOM tells so too, of the walk and of the leaf list alone
+  pub full-answer : answerOf lh 16 2 0 1024 0 ≡ refused (noRoom 1 1 2 1)
+  pub leaf-answer : leafAnswerOf lh 16 16 1 ≡ success (record { kept = 1; entries = 2; dropped = 1 })
+  pub leaf-full : leafAnswerOf lh 16 16 0 ≡ refused (noRoom 0 1 2 1)

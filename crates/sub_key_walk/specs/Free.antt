@@ -7,7 +7,7 @@ use lib.Dec.{ltb, eqb}
 use lib.ListN.{length}
 use Rattle.words.specs.Paper.{Paper, success, refused}
 use Rattle.sub_key_list.specs.Lists.{LF, LH, LI, RI, entrySize, kindAt, countAt}
-use Rattle.sub_key_walk.specs.Trace.{Event, deep, bad, index, leaf, walkFrom, keptOf, listsOf, entriesOf}
+use Rattle.sub_key_walk.specs.Trace.{Event, deep, bad, index, leaf, walkFrom, keptOf, listsOf, entriesOf, droppedOf}
 use Rattle.sub_key_walk.specs.Judge.{counts}
 use Rattle.sub_key_walk.specs.Answers.{BUDGET-LIMIT, COUNT-LIMIT}
 use Rattle.sub_key_walk.specs.declared.Counts.{Counts}
@@ -48,7 +48,7 @@ pub record Met (s : List ℕ) (base list budget room : ℕ) : Type 0 where
 
 -- the counts of all lists reached
 abbrev pub countsOf : List Event → Counts
-countsOf es = counts (length (keptOf es)) (listsOf es) (entriesOf es)
+countsOf es = counts (length (keptOf es)) (listsOf es) (entriesOf es) (droppedOf es)
 
 -- a list that can be read is not empty
 unfoldable pub Full : Event → Type 0

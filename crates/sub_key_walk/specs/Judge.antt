@@ -7,21 +7,22 @@ use lib.Dec.{eqb}
 use lib.ListN.{length}
 use Rattle.words.specs.Refusals.{TOO-DEEP, OUT-OF-STEPS}
 use Rattle.words.specs.Paper.{Told, Paper, success, refused, tell}
-use Rattle.sub_key_walk.specs.Trace.{Event, deep, bad, index, leaf, keptIn, listsIn, entriesIn}
+use Rattle.sub_key_walk.specs.Trace.{Event, deep, bad, index, leaf, keptIn, listsIn, entriesIn, droppedIn}
 use Rattle.sub_key_walk.specs.declared.Counts.{Counts}
 
 -- "A refusal returns its number, the position of the list .. at fault .. and, from the walk, the lists read so far. Other fields
 -- are 0"
 abbrev pub fault : ℕ → ℕ → ℕ → Told
-fault n p l = tell n p l 0 0
+fault n p l = tell n p l 0 0 0
 
--- "The answer gives offsets kept, lists read, and leaf entries, dropped ones included": the one place where they are put together
-abbrev pub counts : ℕ → ℕ → ℕ → Counts
-counts kept lists entries = record { kept = kept; lists = lists; entries = entries }
+-- "The answer gives offsets kept, lists read, and leaf entries, dropped ones included", and "the number dropped as a further number":
+-- the one place where they are put together
+abbrev pub counts : ℕ → ℕ → ℕ → ℕ → Counts
+counts kept lists entries dropped = record { kept = kept; lists = lists; entries = entries; dropped = dropped }
 
 -- "Then it counts as read": the counts with one list more
 unfoldable pub counted : Counts → Event → Counts
-counted st e = counts (st .kept + length (keptIn e)) (st .lists + listsIn e) (st .entries + entriesIn e)
+counted st e = counts (st .kept + length (keptIn e)) (st .lists + listsIn e) (st .entries + entriesIn e) (st .dropped + droppedIn e)
 
 -- 15: "another list is reached when the lists read equal the budget"
 unfoldable pub inBudget : ℕ → Counts → ℕ → Paper Counts → Paper Counts

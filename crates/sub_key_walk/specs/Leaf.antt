@@ -10,13 +10,13 @@ use Rattle.sub_key_walk.specs.declared.LeafRead.{LeafRead}
 use Rattle.sub_key_walk.specs.declared.LeafAnswer.{LeafAnswer}
 use Rattle.sub_key_walk.specs.declared.LeafAnswer.the-variants.{Read, Refused}
 
--- "offsets kept .. and leaf entries, dropped ones included", as numbers
+-- "offsets kept .. and leaf entries, dropped ones included", and "the number dropped", as numbers
 abbrev pub readOf : Leaf → LeafRead
-readOf l = record { kept = length (l .kept); entries = l .entries }
+readOf l = record { kept = length (l .kept); entries = l .entries; dropped = l .dropped }
 
--- NO ROOM of one leaf list: the places needed and the entries; no walk has read a list
+-- NO ROOM of one leaf list: the places needed, the entries and those dropped; no walk has read a list
 abbrev pub fullLeaf : LeafRead → Told
-fullLeaf r = noRoom 0 (r .kept) (r .entries)
+fullLeaf r = noRoom 0 (r .kept) (r .entries) (r .dropped)
 
 -- the refusals of one list, BAD SIGN for an `ri` list, then 9
 abbrev pub leafAnswerOf : List ℕ → ℕ → ℕ → ℕ → Paper LeafRead

@@ -49,7 +49,8 @@ LEVELS = 8
 abbrev pub walkFrom : List ℕ → ℕ → ℕ → List Event
 walkFrom s base list = trace (ordinary s) LEVELS s base list
 
--- ---- "The answer gives offsets kept, lists read, and leaf entries, dropped ones included": each from the lists reached
+-- ---- "The answer gives offsets kept, lists read, and leaf entries, dropped ones included" and, by document 02, order 2, "the number
+-- dropped as a further number": each from the lists reached
 
 unfoldable pub keptIn : Event → List ℕ
 keptIn (deep p) = []
@@ -81,3 +82,13 @@ entriesIn (leaf p l) = l .entries
 unfoldable pub entriesOf : List Event → ℕ
 entriesOf [] = 0
 entriesOf (e ∷ es) = entriesIn e + entriesOf es
+
+unfoldable pub droppedIn : Event → ℕ
+droppedIn (deep p) = 0
+droppedIn (bad r p) = 0
+droppedIn (index p n) = 0
+droppedIn (leaf p l) = l .dropped
+
+unfoldable pub droppedOf : List Event → ℕ
+droppedOf [] = 0
+droppedOf (e ∷ es) = droppedIn e + droppedOf es

@@ -8,13 +8,13 @@ use lib.ListN.{length}
 use lib.Seq.{sets}
 use Rattle.words.specs.Paper.{success}
 use Rattle.sub_key_list.specs.Lists.{leaf, listAt}
-use Rattle.sub_key_list.specs.Leaves.{Leaf, leafDropped}
+use Rattle.sub_key_list.specs.Leaves.{leafDropped}
 use Rattle.sub_key_list.specs.declared.LeafList.{LeafList}
-use Rattle.sub_key_walk.specs.Trace.{Event, keptIn, keptOf, entriesIn}
+use Rattle.sub_key_walk.specs.Trace.{Event, keptOf, droppedOf}
 use Rattle.sub_key_walk.specs.Judge.{counts, judge}
 use Rattle.sub_key_walk.specs.Answers.{walkPaper}
-use Rattle.sub_key_walk.specs.Free.{All}
 use Rattle.sub_key_walk.specs.declared.Counts.{Counts}
+use Rattle.sub_key_walk.specs.declared.LeafRead.{LeafRead}
 use Rattle.sub_key_walk.specs.declared.WalkAnswer.{WalkAnswer}
 use Rattle.sub_key_walk.specs.declared.WalkAnswer.the-variants.{Read}
 
@@ -40,15 +40,24 @@ pub record Filled (ks old : List ℕ) (place r : ℕ) (new : List ℕ) : Type 0 
 
 -- ---- the counts
 
--- the counts of a walk stay small
+-- the counts of a walk stay small, and every entry is kept or dropped
 pub record Bounded (budget : ℕ) (st : Counts) : Type 0 where
-  pub some-kept : st .kept ≤ st .entries
+  pub every : st .kept + st .dropped ≡ st .entries
   pub some-entries : st .entries ≤ 65535 * st .lists
   pub some-lists : st .lists ≤ budget
 
--- the counts with a leaf list more
-abbrev pub withLeaf : Counts → Leaf → Counts
-withLeaf st l = counts (st .kept + length (l .kept)) (st .lists + 1) (st .entries + l .entries)
+-- and so do those of one leaf list
+pub record Small (r : LeafRead) : Type 0 where
+  pub every : r .kept + r .dropped ≡ r .entries
+  pub few : r .entries ≤ 65535
+
+-- the counts with an `ri` list more, which gives nothing else
+abbrev pub withIndex : Counts → Counts
+withIndex st = counts (st .kept) (st .lists + 1) (st .entries) (st .dropped)
+
+-- the counts with a leaf list more, by what it gave
+abbrev pub withLeaf : Counts → LeafRead → Counts
+withLeaf st r = counts (st .kept + r .kept) (st .lists + 1) (st .entries + r .entries) (st .dropped + r .dropped)
 
 -- ---- the walks
 
@@ -57,11 +66,7 @@ pub record Walk (budget : ℕ) (st : Counts) (es : List Event) (r : WalkAnswer) 
   pub answer : walkPaper r ≡ judge budget st es
   pub bounded : (t : Counts) → r ≡ Read t → Bounded budget t
 
--- a list of which no entry is dropped
-abbrev pub KeepsAll : Event → Type 0
-KeepsAll e = entriesIn e ≤ length (keptIn e)
-
 -- a buffer has room from a place on for what the lists `es` keep and, where that is claimed, none of their entries is dropped
 pub record Roomy (es : List Event) (whole : Bool) (old : List ℕ) (place : ℕ) : Type 0 where
   pub room : place + length (keptOf es) ≤ length old
-  pub all : whole ≡ true → All KeepsAll es
+  pub all : whole ≡ true → droppedOf es ≡ 0

@@ -10,10 +10,10 @@ ghost use Rattle.words.specs.Words.{word32};
 ghost use Rattle.words.specs.Paper.{refused, noRoom};
 ghost use Rattle.sub_key_list.specs.Leaves.{keep, leafKept, dropOne, leafDropped, leafOf};
 ghost use Rattle.sub_key_walk.specs.Trace.{trace, ordinary, keptOf};
-ghost use Rattle.sub_key_walk.specs.Judge.{fault, counts};
-ghost use Rattle.sub_key_walk.specs.Answers.{BUDGET-LIMIT, measured, walkTold, walkPaper, WalkAnswered};
+ghost use Rattle.sub_key_walk.specs.Judge.{fault};
+ghost use Rattle.sub_key_walk.specs.Answers.{BUDGET-LIMIT, none, measured, walkTold, walkPaper, WalkAnswered};
 ghost use Rattle.sub_key_walk.specs.Leaf.{readOf, LeafAnswered};
-ghost use Rattle.sub_key_walk.specs.Walk.{Entries, Stands, Whole, Filled, Bounded, withLeaf, Walk, Roomy};
+ghost use Rattle.sub_key_walk.specs.Walk.{Entries, Stands, Whole, Filled, Bounded, Small, withIndex, withLeaf, Walk, Roomy};
 
 // The greatest budget, the greatest count of subkeys or of values, and the levels of lists.
 const BUDGET_LIMIT: u32 = 65536;
@@ -22,21 +22,23 @@ pub const COUNT_LIMIT: u32 = 1048576;
 
 const LEVELS: u32 = 8;
 
-// Offsets kept, lists read, and entries of leaf lists, dropped ones included.
+// Offsets kept, lists read, entries of leaf lists, dropped ones included, and those dropped.
 pub struct Counts {
     pub kept: u32,
     pub lists: u32,
     pub entries: u32,
+    pub dropped: u32,
 }
 
 // A refusal: its number, the position of the list at fault, the lists read so far and, where there is no room, the places
-// needed and the entries.
+// needed, the entries and those dropped.
 pub struct WalkRefusal {
     pub number: u32,
     pub position: usize,
     pub lists: u32,
     pub places: u32,
     pub entries: u32,
+    pub dropped: u32,
 }
 
 pub enum WalkAnswer {
@@ -44,10 +46,11 @@ pub enum WalkAnswer {
     Refused(WalkRefusal),
 }
 
-// What one leaf list gave: the offsets kept, and all entries, dropped ones included.
+// What one leaf list gave: the offsets kept, all entries, dropped ones included, and those dropped.
 pub struct LeafRead {
     pub kept: u32,
     pub entries: u32,
+    pub dropped: u32,
 }
 
 pub enum LeafAnswer {
@@ -65,12 +68,13 @@ fn refusal(number: u32, position: usize, lists: u32) -> WalkRefusal
         lists,
         places: 0,
         entries: 0,
+        dropped: 0,
     }
 }
 
 // The refusal of what can be read, where the buffer has too few places.
-fn full(lists: u32, places: u32, entries: u32) -> WalkRefusal
-    ensures { λ r. ⌜ walkTold r ≡ noRoom lists places entries ⌝ }
+fn full(lists: u32, places: u32, entries: u32, dropped: u32) -> WalkRefusal
+    ensures { λ r. ⌜ walkTold r ≡ noRoom lists places entries dropped ⌝ }
 {
     WalkRefusal {
         number: words::NO_ROOM,
@@ -78,6 +82,7 @@ fn full(lists: u32, places: u32, entries: u32) -> WalkRefusal
         lists,
         places,
         entries,
+        dropped,
     }
 }
 
@@ -87,15 +92,46 @@ fn refuse(number: u32, position: usize, lists: u32) -> WalkAnswer
     WalkAnswer::Refused(refusal(number, position, lists))
 }
 
-// What is read so far: offsets kept, lists and entries.
-fn read_so_far(kept: u32, lists: u32, entries: u32) -> WalkAnswer
-    ensures { λ r. ⌜ r ≡ WalkAnswer.Read (counts kept lists entries) ⌝ }
+// The counts where no list is read yet.
+fn nothing_read() -> Counts
+    ensures { λ r. ⌜ r ≡ none ⌝ }
 {
-    WalkAnswer::Read(Counts {
+    Counts {
+        kept: 0,
+        lists: 0,
+        entries: 0,
+        dropped: 0,
+    }
+}
+
+// The counts with an `ri` list more, which gives nothing else.
+fn with_index(prior: Counts) -> Counts
+    requires { ⌜ Bounded 65535 prior ⌝ }
+    ensures { λ r. ⌜ r ≡ withIndex prior ⌝ }
+{
+    Counts {
+        kept: prior.kept,
+        lists: prior.lists + 1,
+        entries: prior.entries,
+        dropped: prior.dropped,
+    }
+}
+
+// The counts with a leaf list more, by what it gave.
+fn with_leaf(prior: Counts, read: LeafRead) -> Counts
+    requires { ⌜ Bounded 65535 prior ⌝ ∗ ⌜ Small read ⌝ }
+    ensures { λ r. ⌜ r ≡ withLeaf prior read ⌝ }
+{
+    let kept = prior.kept + read.kept;
+    let lists = prior.lists + 1;
+    let entries = prior.entries + read.entries;
+    let dropped = prior.dropped + read.dropped;
+    Counts {
         kept,
         lists,
         entries,
-    })
+        dropped,
+    }
 }
 
 // The word at a place whose four bytes are there.
@@ -238,7 +274,11 @@ fn read_leaf(image: &[u8], base: u32, position: usize, leaf: LeafList) -> LeafRe
     let dropped = dropped_in(image, base, position, leaf);
     let entries = leaf.count as u32;
     let kept = entries - dropped;
-    LeafRead { kept, entries }
+    LeafRead {
+        kept,
+        entries,
+        dropped,
+    }
 }
 
 // And written from a place on. Where it is known that none is dropped, `whole` says so.
@@ -274,52 +314,31 @@ pub fn leaf_sub_keys(image: &[u8], base: u32, position: usize, out: &mut [u32]) 
         SubKeyList::Leaf(leaf) => {
             let read = read_leaf(image, base, position, leaf);
             let kept = read.kept;
-            let entries = read.entries;
+            let dropped = read.dropped;
             let room = out.len();
             if room < (kept as usize) {
-                return LeafAnswer::Refused(full(0, kept, entries));
+                return LeafAnswer::Refused(full(0, kept, read.entries, dropped));
             }
-            fill_leaf(image, base, position, leaf, kept == entries, out, 0);
+            fill_leaf(image, base, position, leaf, dropped == 0, out, 0);
             LeafAnswer::Read(read)
         }
     }
 }
 
-// What is read after so much, with the leaf list that stands at a position counted.
-fn count_leaf(
-    image: &[u8],
-    base: u32,
-    position: usize,
-    leaf: LeafList,
-    kept: u32,
-    lists: u32,
-    entries: u32,
-) -> WalkAnswer
-    requires { ⌜ Stands (now image) position leaf ⌝ ∗ ⌜ Bounded 65535 (counts kept lists entries) ⌝ }
-    ensures { λ r. ⌜ r ≡ WalkAnswer.Read (withLeaf (counts kept lists entries) (leafOf (now (image .entry)) base position (leaf .«entry_size») (leaf .count))) ⌝ }
-{
-    let read = read_leaf(image, base, position, leaf);
-    let kept_after = kept + read.kept;
-    let lists_after = lists + 1;
-    let entries_after = entries + read.entries;
-    read_so_far(kept_after, lists_after, entries_after)
-}
-
-// Measures the walk of the list at an offset, with so many levels left, after so many offsets kept, lists read and entries.
+// Measures the walk of the list at an offset, with so many levels left, from the counts prior to it.
 fn measure(
     image: &[u8],
     base: u32,
     budget: u32,
     levels: u32,
     offset: u32,
-    kept: u32,
-    lists: u32,
-    entries: u32,
+    prior: Counts,
 ) -> WalkAnswer
-    requires { ⌜ budget ≤ BUDGET-LIMIT ⌝ ∗ ⌜ Bounded budget (counts kept lists entries) ⌝ }
-    ensures { λ r. ⌜ Walk budget (counts kept lists entries) (trace (ordinary (now (image .entry))) levels (now (image .entry)) base offset) r ⌝ }
+    requires { ⌜ budget ≤ BUDGET-LIMIT ⌝ ∗ ⌜ Bounded budget prior ⌝ }
+    ensures { λ r. ⌜ Walk budget prior (trace (ordinary (now (image .entry))) levels (now (image .entry)) base offset) r ⌝ }
 {
     let position = (offset as usize) + (base as usize);
+    let lists = prior.lists;
     if levels == 0 {
         return refuse(words::TOO_DEEP, position, lists);
     }
@@ -328,30 +347,29 @@ fn measure(
     }
     match sub_key_list::read_list(image, position) {
         SubKeyList::Refused(fault) => refuse(fault.number, position, lists),
-        SubKeyList::Leaf(leaf) => count_leaf(image, base, position, leaf, kept, lists, entries),
+        SubKeyList::Leaf(leaf) => {
+            let read = read_leaf(image, base, position, leaf);
+            WalkAnswer::Read(with_leaf(prior, read))
+        }
         SubKeyList::Index(index) => {
             let count = index.count;
-            let mut k = kept;
-            let mut l = lists + 1;
-            let mut e = entries;
+            let mut sum = with_index(prior);
             let mut pos = position + 8;
             let mut i: u16 = 0;
             while i < count {
                 let next = word(image, pos);
-                match measure(image, base, budget, levels - 1, next, k, l, e) {
+                match measure(image, base, budget, levels - 1, next, sum) {
                     WalkAnswer::Refused(fault) => {
                         return WalkAnswer::Refused(fault);
                     }
-                    WalkAnswer::Read(sum) => {
-                        k = sum.kept;
-                        l = sum.lists;
-                        e = sum.entries;
+                    WalkAnswer::Read(after) => {
+                        sum = after;
                     }
                 }
                 pos = pos + 4;
                 i = i + 1;
             }
-            read_so_far(k, l, e)
+            WalkAnswer::Read(sum)
         }
     }
 }
@@ -398,6 +416,7 @@ fn fill(
 pub fn sub_key_counts(image: &[u8], base: u32, count: u32, list: u32, budget: u32) -> WalkAnswer
     ensures { λ r. ⌜ walkPaper r ≡ measured (now (image .entry)) base count list budget ⌝ }
 {
+    let start = nothing_read();
     if BUDGET_LIMIT < budget {
         return refuse(words::BAD_BUDGET, 0, 0);
     }
@@ -405,9 +424,9 @@ pub fn sub_key_counts(image: &[u8], base: u32, count: u32, list: u32, budget: u3
         return refuse(words::TOO_MANY, 0, 0);
     }
     if count == 0 {
-        return read_so_far(0, 0, 0);
+        return WalkAnswer::Read(start);
     }
-    measure(image, base, budget, LEVELS, list, 0, 0, 0)
+    measure(image, base, budget, LEVELS, list, start)
 }
 
 // The subkeys of a key record with a subkey count and the offset of its list, into `out`.
@@ -425,12 +444,12 @@ pub fn sub_keys(
         WalkAnswer::Refused(fault) => WalkAnswer::Refused(fault),
         WalkAnswer::Read(whole) => {
             let kept = whole.kept;
-            let entries = whole.entries;
+            let dropped = whole.dropped;
             if out.len() < (kept as usize) {
-                return WalkAnswer::Refused(full(whole.lists, kept, entries));
+                return WalkAnswer::Refused(full(whole.lists, kept, whole.entries, dropped));
             }
             if 0 < kept {
-                fill(image, base, LEVELS, list, kept == entries, out, 0);
+                fill(image, base, LEVELS, list, dropped == 0, out, 0);
             }
             WalkAnswer::Read(whole)
         }

@@ -13,9 +13,9 @@ unfoldable pub inRoom : {A : Type 0} → (A → Told) → ℕ → Paper A → Pa
 inRoom full room (success v) = cond (ltb room (full v .places)) (refused (full v)) (success v)
 inRoom full room (refused t) = refused t
 
--- where the success is the number of places that are written
+-- where the success is the number of places that are written: no lists, no entries, none dropped
 abbrev pub needing : ℕ → Told
-needing n = noRoom 0 n 0
+needing n = noRoom 0 n 0 0
 
 -- "On success the output is written from the first place on, and the places after the last one written keep their old contents."
 -- A refusal "changes no place of the output buffer". The buffer held `old`, and a success writes the row `ks`.

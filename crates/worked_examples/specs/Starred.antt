@@ -15,7 +15,7 @@ use Rattle.name_hash.specs.Hash.{nameHashOf}
 use Rattle.cell_key_node.specs.ValueList.{valueListOf}
 
 -- The images `li`, `li-empty`, `lx`, `lh` and `ri` are those of the sentences, byte by byte. A walk is given as image, base, count,
--- list, budget and, for its answer, room; its counts are kept, lists and entries.
+-- list, budget and, for its answer, room; its counts are kept, lists, entries and, by document 02, order 2, those dropped.
 pub record Starred : Type 0 where
   -- "Checksum: 508 zero bytes, 1."
   pub checksum-of-zeros : checksumOf (replicate 508 0) ≡ success 1
@@ -24,17 +24,17 @@ pub record Starred : Type 0 where
   -- "507 bytes: refused 1."
   pub checksum-short : checksumOf (replicate 507 0) ≡ refused (by SHORT 0)
   -- "Base 0, list 0, `li`, count 2, entries 16 and 32: kept 16, 32; 1 list."
-  pub li-answer : answerOf li 0 2 0 1024 4096 ≡ success (counts 2 1 2)
+  pub li-answer : answerOf li 0 2 0 1024 4096 ≡ success (counts 2 1 2 0)
   pub li-kept : keptBy li 0 2 0 ≡ 16 ∷ 32 ∷ []
   -- "The same list with list count 0: kept none, 1 list."
-  pub empty-answer : answerOf li-empty 0 2 0 1024 4096 ≡ success (counts 0 1 0)
+  pub empty-answer : answerOf li-empty 0 2 0 1024 4096 ≡ success (counts 0 1 0 0)
   pub empty-kept : keptBy li-empty 0 2 0 ≡ []
   -- "Cut to 7 bytes: 8."
   pub cut-to-7 : answerOf (take 7 li) 0 2 0 1024 4096 ≡ refused (by CUT-SHORT 0)
   -- "`lx`: 4."
   pub unknown-kind : answerOf lx 0 2 0 1024 4096 ≡ refused (by BAD-SIGN 0)
   -- "Base 16, `lh` at offset 0: entry FFFFFFEF kept as FFFFFFFF; FFFFFFF0 dropped."
-  pub lh-answer : answerOf lh 16 2 0 1024 4096 ≡ success (counts 1 1 2)
+  pub lh-answer : answerOf lh 16 2 0 1024 4096 ≡ success (counts 1 1 2 1)
   pub lh-kept : keptBy lh 16 2 0 ≡ 0xFFFF_FFFF ∷ []
   -- "`ri` at 0, base 0, naming itself: budget 8 gives 14 with 8 lists; budget 7 gives 15 with 7."
   pub budget-8 : answerOf ri 0 1 0 8 4096 ≡ refused (fault TOO-DEEP 0 8)

@@ -27,7 +27,7 @@ returns c =
     let e = c .before .dropped-in .ensures in
     let w = leaf-all (a .image .now) (a .base) (a .leaf .«entry_size») (a .leaf .count) (a .position + 8) in
     let k : a .leaf .count - c .before .dropped-in .result ≡ length (leafKept (a .image .now) (a .base) (a .leaf .«entry_size») (a .leaf .count) (a .position + 8)) = omega arith in
-    λ i. record { kept = k i; entries = a .leaf .count }
+    λ i. record { kept = k i; entries = a .leaf .count; dropped = e i }
 
 pub read-leaf-spec : {M : Type 1} → statement M
 read-leaf-spec = tie.close (tie.spec dropped-in-requires cast-entries sub-kept returns)

@@ -68,7 +68,7 @@ fn bins_line(t: BinTotals) -> bool {
 }
 
 fn keys_line(c: Counts) -> bool {
-    text(b"keys") & word(c.kept) & word(c.lists) & word(c.entries) & text(b"\n")
+    text(b"keys") & word(c.kept) & word(c.lists) & word(c.entries) & word(c.dropped) & text(b"\n")
 }
 
 fn offset_line(offset: u32) -> bool {

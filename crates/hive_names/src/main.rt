@@ -119,6 +119,7 @@ fn sub_keys(image: &[u8], key: KeyNode) {
             word(counts.kept);
             word(counts.lists);
             word(counts.entries);
+            word(counts.dropped);
             line();
             entries(image, list, &out, counts.kept);
         }

@@ -141,13 +141,14 @@ fn each_sub_key(image: &[u8], minor: u32, out: &[u32], n: u32) {
     }
 }
 
-// Step 4: the subkeys of a key, into a lent buffer; the first few are visited.
+// Step 4: the subkeys of a key, into a lent buffer, and how many entries of its lists are left out; the first few are visited.
 fn sub_keys(image: &[u8], minor: u32, key: KeyNode) {
     let mut out = [0u32; 64];
     match cell_key_node::sub_keys_of(image, BASE, key, BUDGET, &mut out) {
         WalkAnswer::Refused(f) => refused(f.number, f.position),
         WalkAnswer::Read(c) => {
             number(c.kept as u64);
+            number(c.dropped as u64);
             line();
             let few = if c.kept < FEW { c.kept } else { FEW };
             each_sub_key(image, minor, &out, few);

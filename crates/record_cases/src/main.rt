@@ -443,6 +443,7 @@ fn walk_answer(answer: WalkAnswer) {
             word(counts.kept);
             word(counts.lists);
             word(counts.entries);
+            word(counts.dropped);
         }
         WalkAnswer::Refused(f) => {
             io::write_all(1, b" refused");

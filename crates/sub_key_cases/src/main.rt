@@ -1,5 +1,6 @@
-// Walks small images and writes a line for each: what is tried, then `read` with offsets kept, lists and entries, or `refused` with
-// number, position, lists, places and entries, and behind `|` every place of the buffer, which held 7 in each before.
+// Walks small images and writes a line for each: what is tried, then `read` with offsets kept, lists, entries and those dropped, or
+// `refused` with number, position, lists, places, entries and those dropped, and behind `|` every place of the buffer, which held 7 in
+// each before.
 use sub_key_walk::WalkAnswer;
 ghost use Prim.Native.Nat.{_≤_};
 
@@ -20,6 +21,7 @@ fn answer(label: &[u8], a: WalkAnswer) {
             number(wide(c.kept));
             number(wide(c.lists));
             number(wide(c.entries));
+            number(wide(c.dropped));
         }
         WalkAnswer::Refused(f) => {
             io::write_all(1, b": refused");
@@ -28,6 +30,7 @@ fn answer(label: &[u8], a: WalkAnswer) {
             number(wide(f.lists));
             number(wide(f.places));
             number(wide(f.entries));
+            number(wide(f.dropped));
         }
     }
 }

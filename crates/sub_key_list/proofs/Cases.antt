@@ -4,10 +4,12 @@ use mathlib.Core.List.{List}
 use Prim.Native.Nat.{ℕ, _*_, _-_, _≤_, _<_}
 use native.Mathlib.Nat.{mul-le-mul}
 use native.Mathlib.Omega.{arith}
+use lib.Dec.{ltb, eqb}
 use lib.ListN.{length}
 use borrow.Author.Tests.{eq-eqb, ne-eqb, lt-ltb, le-ltb}
 use Rattle.words.specs.Refusals.{OUTSIDE, BAD-SIGN, CUT-SHORT}
 use Rattle.words.specs.Paper.{success, refused, by}
+use Rattle.words.proofs.Plain.{Plainly, plainly-success, plainly-by, plainly-cond}
 use Rattle.sub_key_list.specs.Lists.{RI, entrySize, leaf, index, ofKind, kindAt, countAt, listAt}
 
 -- the bytes of all entries are few
@@ -44,3 +46,13 @@ module _ (s : List ℕ) (p : ℕ) where
           pub list-leaf : (kind ≡ RI → ⊥) → success (leaf kind size count) ≡ listAt s p
           unfolding listAt ofKind
           list-leaf i = simp (le-ltb _ _ h, ← q, le-ltb _ _ k, ← e, ← f, ← g, ne-eqb _ _ z, le-ltb _ _ l, ne-eqb _ _ i)
+
+-- no refusal of a list is NO ROOM
+pub list-plain : (s : List ℕ) (p : ℕ) → Plainly (listAt s p)
+unfolding listAt
+list-plain s p =
+    plainly-cond (ltb (length s) p) (plainly-by OUTSIDE p (omega arith))
+    (plainly-cond (ltb (length s - p) 8) (plainly-by CUT-SHORT p (omega arith))
+    (plainly-cond (eqb (entrySize (kindAt s p)) 0) (plainly-by BAD-SIGN p (omega arith))
+    (plainly-cond (ltb (length s - p - 8) (entrySize (kindAt s p) * countAt s p)) (plainly-by CUT-SHORT p (omega arith))
+    (plainly-success (ofKind (kindAt s p) (countAt s p))))))

@@ -20,10 +20,11 @@ use Rattle.sub_key_list.specs.Leaves.{leafOf, leafKept, onlyLeaf}
 use Rattle.sub_key_list.specs.declared.LeafList.{LeafList}
 use Rattle.sub_key_list.specs.declared.IndexList.{IndexList}
 use Rattle.sub_key_list.specs.declared.SubKeyList.the-variants as found
-use Rattle.sub_key_walk.specs.Trace.{walkFrom, keptOf, droppedOf}
+use Rattle.sub_key_walk.specs.Trace.{Event, walkFrom, keptOf, listsOf, entriesOf, droppedOf}
 use Rattle.sub_key_walk.specs.Judge.{fault, judge}
-use Rattle.sub_key_walk.specs.Answers.{BUDGET-LIMIT, COUNT-LIMIT, none, measured, fullOf, answerOf, keptBy, walkTold, walkPaper, WalkAnswered}
+use Rattle.sub_key_walk.specs.Answers.{BUDGET-LIMIT, COUNT-LIMIT, none, measured, fullOf, answerOf, reachedBy, keptBy, walkTold, walkPaper, WalkAnswered}
 use Rattle.sub_key_walk.specs.Leaf.{readOf, fullLeaf, leafAnswerOf, keptFrom, LeafAnswered}
+use Rattle.sub_key_walk.specs.Free.{countsOf}
 use Rattle.sub_key_walk.specs.Walk.{Whole, Filled, Bounded, Roomy}
 use Rattle.sub_key_walk.specs.declared.Counts.{Counts}
 use Rattle.sub_key_walk.specs.declared.WalkRefusal.{WalkRefusal}
@@ -31,7 +32,7 @@ use Rattle.sub_key_walk.specs.declared.WalkAnswer.{WalkAnswer}
 use Rattle.sub_key_walk.specs.declared.WalkAnswer.the-variants.{Read, Refused}
 use Rattle.sub_key_walk.specs.declared.LeafRead.{LeafRead}
 use Rattle.sub_key_walk.specs.declared.LeafAnswer.the-variants as leaf
-use Rattle.sub_key_walk.proofs.Judged.{judge-tally}
+use Rattle.sub_key_walk.proofs.Judged.{judge-counts}
 
 -- a row that is written from the first place on
 front-filled : (ks old : List ℕ) {r : ℕ} {new : List ℕ} → Filled ks old 0 r new → length ks ≤ length old → new ≡ ks ++ drop (length ks) old
@@ -73,34 +74,29 @@ module _ (s : List ℕ) (base count list budget : ℕ) where
 pub start-bounded : {budget : ℕ} {start : Counts} → start ≡ none → Bounded budget start
 start-bounded {budget} e = subst (Bounded budget) (sym e) (record { every = omega arith; some-entries = omega arith; some-lists = omega arith })
 
-pub kept-walk : (s : List ℕ) (base count list : ℕ) → (count ≡ 0 → ⊥) → keptBy s base count list ≡ keptOf (walkFrom s base list)
-unfolding keptBy
-kept-walk s base count list h = rw (ne-eqb count 0 h)
+-- a walk that is measured counts all lists that are reached
+pub reached-walk : (s : List ℕ) (base count list : ℕ) → (count ≡ 0 → ⊥) → reachedBy s base count list ≡ walkFrom s base list
+unfolding reachedBy
+reached-walk s base count list h = rw (ne-eqb count 0 h)
 
--- what a walk that is measured counts: the offsets that it keeps and, where there are some, the entries that its lists drop
-pub record Measured (s : List ℕ) (base count list : ℕ) (t : Counts) : Type 0 where
-  pub keeps : t .kept ≡ length (keptBy s base count list)
-  pub walked : 0 < t .kept → keptBy s base count list ≡ keptOf (walkFrom s base list)
-  pub drops : 0 < t .kept → t .dropped ≡ droppedOf (walkFrom s base list)
+reached-none : (s : List ℕ) (base count list : ℕ) → count ≡ 0 → reachedBy s base count list ≡ []
+unfolding reachedBy
+reached-none s base count list h = rw (eq-eqb count 0 h)
 
-pub what-measured : (s : List ℕ) (base count list budget : ℕ) (t : Counts) → measured s base count list budget ≡ success t → Measured s base count list t
-unfolding measured keptBy
-what-measured s base count list budget t q = go (ltb BUDGET-LIMIT budget) (ltb COUNT-LIMIT count) (eqb count 0) refl refl refl
+pub measured-counts : (s : List ℕ) (base count list budget : ℕ) (t : Counts) → measured s base count list budget ≡ success t → t ≡ countsOf (reachedBy s base count list)
+unfolding measured reachedBy keptOf listsOf entriesOf droppedOf
+measured-counts s base count list budget t q = go (ltb BUDGET-LIMIT budget) (ltb COUNT-LIMIT count) (eqb count 0) refl refl refl
   where
-    go : (a b c : Bool) → ltb BUDGET-LIMIT budget ≡ a → ltb COUNT-LIMIT count ≡ b → eqb count 0 ≡ c → Measured s base count list t
+    go : (a b c : Bool) → ltb BUDGET-LIMIT budget ≡ a → ltb COUNT-LIMIT count ≡ b → eqb count 0 ≡ c → t ≡ countsOf (reachedBy s base count list)
     go true b c x y z = absurd (success-refused (sym (rw x at q)))
     go false true c x y z = absurd (success-refused (sym (rw (x, y) at q)))
-    go false false true x y z =
-        let e : none ≡ t = same-success (rw (x, y, z) at q) in
-        let k : 0 ≡ t .kept = ap (λ (u : Counts). u .kept) e in
-        record { keeps = rw z (sym k); walked = λ h. absurd (let w : ⊥ = omega arith in w); drops = λ h. absurd (let w : ⊥ = omega arith in w) }
-    go false false false x y z =
-        let e = judge-tally budget (walkFrom s base list) t (rw (x, y, z) at q) in
-        record {
-          keeps = rw z (ap (λ (u : Counts). u .kept) e ∙ zero-add _);
-          walked = λ h. rw z;
-          drops = λ h. ap (λ (u : Counts). u .dropped) e ∙ zero-add _;
-        }
+    go false false true x y z = rw z (sym (same-success (rw (x, y, z) at q)))
+    go false false false x y z = rw z (judge-counts budget (walkFrom s base list) t (rw (x, y, z) at q))
+
+-- where it keeps something, it is no walk from a count of 0
+kept-some : (s : List ℕ) (base count list : ℕ) → 0 < length (keptBy s base count list) → reachedBy s base count list ≡ walkFrom s base list
+unfolding keptOf
+kept-some s base count list h = reached-walk s base count list (λ z. let e = ap (λ (es : List Event). length (keptOf es)) (reached-none s base count list z) in let w : ⊥ = omega arith in w)
 
 -- ---- and with it
 
@@ -115,8 +111,9 @@ module _ (s : List ℕ) (base count list budget : ℕ) (old : List ℕ) (w : Wal
     pub walk-full : length old < t .kept → {f : WalkRefusal} → walkTold f ≡ noRoom (t .lists) (t .kept) (t .entries) (t .dropped) → WalkAnswered s base count list budget old (Refused f) old
     walk-full h e = answered-refused (ap refused e) (given (ap walkPaper q) ∙ room-full fullOf (length old) t h)
 
-    counted : Measured s base count list t
-    counted = what-measured s base count list budget t (sym k ∙ ap walkPaper q)
+    -- what is counted, of the lists reached
+    kept-number : t .kept ≡ length (keptBy s base count list)
+    kept-number = ap (λ (c : Counts). c .kept) (measured-counts s base count list budget t (sym k ∙ ap walkPaper q))
 
     module _ (h : t .kept ≤ length old) where
       fits : answerOf s base count list budget (length old) ≡ success t
@@ -124,21 +121,28 @@ module _ (s : List ℕ) (base count list budget : ℕ) (old : List ℕ) (w : Wal
 
       pub walk-empty : t .kept ≤ 0 → WalkAnswered s base count list budget old (Read t) old
       walk-empty z =
-          let e = counted .keeps in
+          let e = kept-number in
           answered-success refl fits (ap (λ (ks : List ℕ). ks ++ drop (length ks) old) (sym (no-row (keptBy s base count list) (omega arith))))
 
       module _ (some : 0 < t .kept) where
+        walked : countsOf (reachedBy s base count list) ≡ countsOf (walkFrom s base list)
+        walked = let e = kept-number in ap countsOf (kept-some s base count list (omega arith))
+
+        counted : t ≡ countsOf (walkFrom s base list)
+        counted = measured-counts s base count list budget t (sym k ∙ ap walkPaper q) ∙ walked
+
         pub walk-roomy : {whole : Bool} → whole ≡ eqb (t .dropped) 0 → Roomy (walkFrom s base list) whole old 0
         walk-roomy z =
-            let n : t .kept ≡ length (keptOf (walkFrom s base list)) = counted .keeps ∙ ap length (counted .walked some) in
-            record { room = omega arith; all = λ e. sym (counted .drops some) ∙ eqb-true _ _ (sym z ∙ e) }
+            let n = ap (λ (c : Counts). c .kept) counted in
+            record { room = omega arith; all = λ e. sym (ap (λ (c : Counts). c .dropped) counted) ∙ eqb-true _ _ (sym z ∙ e) }
 
         pub walk-filled : {r : ℕ} {new : List ℕ} → Filled (keptOf (walkFrom s base list)) old 0 r new → WalkAnswered s base count list budget old (Read t) new
         walk-filled f =
-            let n : t .kept ≡ length (keptOf (walkFrom s base list)) = counted .keeps ∙ ap length (counted .walked some) in
+            let n = ap (λ (c : Counts). c .kept) counted in
+            let e = kept-number in
             answered-success refl fits
             (front-filled (keptOf (walkFrom s base list)) old f (omega arith)
-            ∙ ap (λ (ks : List ℕ). ks ++ drop (length ks) old) (sym (counted .walked some)))
+            ∙ ap (λ (es : List Event). keptOf es ++ drop (length (keptOf es)) old) (sym (kept-some s base count list (omega arith))))
 
 -- ---- one leaf list
 

@@ -20,10 +20,9 @@ use Rattle.sub_key_walk.specs.declared.Counts.{Counts}
 use Rattle.sub_key_walk.specs.declared.WalkRefusal.{WalkRefusal}
 use Rattle.sub_key_walk.specs.declared.WalkAnswer.{WalkAnswer}
 use Rattle.sub_key_walk.specs.declared.WalkAnswer.the-variants.{Read, Refused}
-use Rattle.sub_key_walk.proofs.Walks.{counts-path}
 use Rattle.sub_key_walk.proofs.Papers.{paper-read}
-use Rattle.sub_key_walk.proofs.Answers.{Started, measured-walk, kept-walk}
-use Rattle.sub_key_walk.proofs.Judged.{tally, lists-all, judge-all, all-judge, judge-lists}
+use Rattle.sub_key_walk.proofs.Answers.{Started, measured-walk, reached-walk}
+use Rattle.sub_key_walk.proofs.Judged.{tally-counts, lists-all, judge-all, all-judge, judge-lists}
 use Rattle.sub_key_walk.proofs.Traces.{good-fine, fine-good, trace-dense}
 -- What document 01 says of an answer tells the answers apart, and two answers with their buffers that are allowed for one input
 -- are equal.
@@ -59,9 +58,6 @@ pub lists-reported : (s : List ℕ) (base count list budget room : ℕ) → list
 lists-reported s base count list budget room = room-lists room (measured s base count list budget) ∙ lists-measured s base count list budget
 
 -- ---- "For a subkey count from 1 to 1,048,576 and a budget up to 65,536, the subkey walk succeeds exactly when .."
-
-tally-counts : (es : List Event) → tally none es ≡ countsOf es
-tally-counts es = counts-path (zero-add _) (zero-add _) (zero-add _) (zero-add _)
 
 module _ (s : List ℕ) (base count list budget room : ℕ) (d : Started count budget) where
   abbrev reached : List Event
@@ -124,7 +120,7 @@ demand-3 s base count list budget old r new x some few small = record {
   reported = answer-lists s base count list budget old r new x;
   few = λ y f. rw (read-paper (y .is)) (lists-few s base count list budget (length old) d (y .counts) (answer y) f);
   counts = λ t q. why (record { counts = t; is = q }) .counts;
-  filled = λ y. filled x (read-paper (y .is)) ∙ ap (λ (ks : List ℕ). ks ++ drop (length ks) old) (kept-walk s base count list (d .some));
+  filled = λ y. filled x (read-paper (y .is)) ∙ ap (λ (es : List Event). keptOf es ++ drop (length (keptOf es)) old) (reached-walk s base count list (d .some));
   untouched = λ f q. refusal-untouched s base count list budget old r new x f q;
 }
   where

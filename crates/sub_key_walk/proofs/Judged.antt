@@ -3,6 +3,7 @@ use mathlib.Core.Path.{_≡_, refl, ap, sym, _∙_}
 use mathlib.Core.List.{List, [], _∷_}
 use mathlib.Core.Bool.{Bool, true, false}
 use Prim.Native.Nat.{ℕ, _+_, _≤_, min}
+use native.Mathlib.Nat.{zero-add}
 use native.Mathlib.Omega.{arith}
 use borrow.Author.Tests.{eq-eqb, ne-eqb, eqb-true, eqb-false}
 use lib.Dec.{eqb}
@@ -12,7 +13,7 @@ use Rattle.words.proofs.Papers.{success-refused, same-success}
 use Rattle.sub_key_walk.specs.Trace.{Event, deep, bad, index, leaf, keptIn, keptOf, listsIn, listsOf, entriesOf, droppedOf}
 use Rattle.sub_key_walk.specs.Judge.{fault, counts, counted, inBudget, one, after, judge}
 use Rattle.sub_key_walk.specs.Answers.{none}
-use Rattle.sub_key_walk.specs.Free.{All, front, listsBy}
+use Rattle.sub_key_walk.specs.Free.{All, countsOf, front, listsBy}
 use Rattle.sub_key_walk.specs.declared.Counts.{Counts}
 use Rattle.sub_key_walk.proofs.Walks.{after-success, budget-success, counts-path}
 
@@ -103,10 +104,13 @@ all-judge budget st (e ∷ es) t h q =
     ((o .good, rest .0), omega (arith, rest .1, good-one e (o .good)))
 
 -- a walk from nothing that succeeds counts every list
-pub judge-tally : (budget : ℕ) (es : List Event) (t : Counts) → judge budget none es ≡ success t → t ≡ tally none es
-judge-tally budget es t q =
+pub tally-counts : (es : List Event) → tally none es ≡ countsOf es
+tally-counts es = counts-path (zero-add _) (zero-add _) (zero-add _) (zero-add _)
+
+pub judge-counts : (budget : ℕ) (es : List Event) (t : Counts) → judge budget none es ≡ success t → t ≡ countsOf es
+judge-counts budget es t q =
     let g = all-judge budget none es t (omega arith) q in
-    same-success (sym q ∙ judge-all budget none es (g .0) (g .1))
+    same-success (sym q ∙ judge-all budget none es (g .0) (g .1)) ∙ tally-counts es
 
 -- ---- the lists that are reported
 

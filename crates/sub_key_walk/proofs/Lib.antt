@@ -5,6 +5,7 @@ pub mod Answers
 pub mod Judged
 pub mod Traces
 pub mod Demand
+pub mod Dropped
 pub mod Examples
 pub mod Entries
 pub mod Fills

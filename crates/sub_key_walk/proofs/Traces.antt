@@ -176,6 +176,16 @@ module _ (P Q : Event → Type 0) (s : List ℕ) (base : ℕ) (d : (p : ℕ) →
   trace-imp zero o a = (d (o + base) (a .0), tt)
   trace-imp (suc l) o a = below-imp (trace (ordinary s) l s base) (λ x. trace-imp l x) (o + base) (listAt s (o + base)) refl a
 
+-- and what holds of each list by itself holds of a whole trace
+any-all : (es : List Event) → All (λ e. Unit {0}) es
+unfolding All
+any-all [] = tt
+any-all (e ∷ es) = (tt, any-all es)
+
+pub trace-all : (Q : Event → Type 0) (s : List ℕ) (base : ℕ) → ((p : ℕ) → Q (deep p)) → ((p : ℕ) (h : Paper Listed) → listAt s p ≡ h → Q (eventOf s base p h))
+    → (levels o : ℕ) → All Q (trace (ordinary s) levels s base o)
+trace-all Q s base d v levels o = trace-imp (λ e. Unit {0}) Q s base (λ p u. d p) (λ p h e u. v p h e) levels o (any-all _)
+
 module _ (s : List ℕ) (base : ℕ) where
   good-fine-at : (p : ℕ) (h : Paper Listed) → listAt s p ≡ h → Good (eventOf s base p h) → Fine s (eventOf s base p h)
   unfolding Fine

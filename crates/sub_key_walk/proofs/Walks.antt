@@ -22,7 +22,7 @@ use Rattle.sub_key_list.specs.declared.SubKeyList.the-variants as found
 use Rattle.words.specs.declared.Refusal.{Refusal}
 use Rattle.sub_key_list.proofs.Leaves.{leaf-all}
 use Rattle.sub_key_walk.specs.Trace.{Event, deep, bad, index, leaf, each, below, trace, keptIn, keptOf, listsIn, entriesIn, droppedIn, droppedOf}
-use Rattle.sub_key_walk.specs.Judge.{fault, counts, counted, inBudget, one, after, judge}
+use Rattle.sub_key_walk.specs.Judge.{fault, counted, inBudget, one, after, judge}
 use Rattle.sub_key_walk.specs.Answers.{BUDGET-LIMIT, walkPaper}
 use Rattle.sub_key_walk.specs.Leaf.{readOf}
 use Rattle.sub_key_walk.specs.Walk.{Bounded, Small, withIndex, withLeaf, Walk}

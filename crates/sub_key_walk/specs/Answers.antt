@@ -8,7 +8,7 @@ use lib.ListN.{length}
 use Rattle.words.specs.Refusals.{TOO-MANY, BAD-BUDGET}
 use Rattle.words.specs.Paper.{Told, Paper, success, refused, by, tell, noRoom}
 use Rattle.words.specs.Buffers.{inRoom, Answered}
-use Rattle.sub_key_walk.specs.Trace.{walkFrom, keptOf}
+use Rattle.sub_key_walk.specs.Trace.{Event, walkFrom, keptOf}
 use Rattle.sub_key_walk.specs.Judge.{counts, judge}
 use Rattle.sub_key_walk.specs.declared.Counts.{Counts}
 use Rattle.sub_key_walk.specs.declared.WalkRefusal.{WalkRefusal}
@@ -42,9 +42,13 @@ fullOf st = noRoom (st .lists) (st .kept) (st .entries) (st .dropped)
 abbrev pub answerOf : List ℕ → ℕ → ℕ → ℕ → ℕ → ℕ → Paper Counts
 answerOf s base count list budget room = inRoom fullOf room (measured s base count list budget)
 
+-- the lists that are reached from a key record: "count 0 succeeds and reads nothing"
+unfoldable pub reachedBy : List ℕ → ℕ → ℕ → ℕ → List Event
+reachedBy s base count list = cond (eqb count 0) [] (walkFrom s base list)
+
 -- the offsets that a walk that succeeds keeps
-unfoldable pub keptBy : List ℕ → ℕ → ℕ → ℕ → List ℕ
-keptBy s base count list = cond (eqb count 0) [] (keptOf (walkFrom s base list))
+abbrev pub keptBy : List ℕ → ℕ → ℕ → ℕ → List ℕ
+keptBy s base count list = keptOf (reachedBy s base count list)
 
 -- what document 01 says of the code's answer
 abbrev pub walkTold : WalkRefusal → Told

@@ -4,5 +4,6 @@ pub mod Answers
 pub mod Leaf
 pub mod Free
 pub mod Demand
+pub mod Dropped
 pub mod Examples
 pub mod Walk

@@ -2,19 +2,20 @@
 use Prim.{tt}
 use mathlib.Core.Path.{_≡_, refl, sym, ap, subst, _∙_}
 use mathlib.Core.List.{List, [], _∷_, _++_}
-use mathlib.Core.Bool.{Bool, true, false, cond, not}
+use mathlib.Core.Bool.{Bool, true, false, not}
 use Prim.Native.Nat.{ℕ, _+_, _≤_, _<_}
 use native.Mathlib.Omega.{arith}
 use lib.Dec.{ltb, eqb}
 use lib.ListN.{length, take, drop}
 use lib.Seq.{take-at, drop-at}
-use borrow.Author.Tests.{ltb-true, lt-leb}
-use Rattle.words.specs.Paper.{Told, Paper, success, refused, by, toldOfRoom, onSuccess, andThen}
-use Rattle.words.specs.Refusals.{NO-ROOM, BAD-DATA, BAD-SIGN, CUT-SHORT}
-use Rattle.words.specs.Buffers.{needing, inRoom}
+use borrow.Author.Tests.{lt-leb}
+use Rattle.words.specs.Paper.{Told, Paper, success, refused, onSuccess}
+use Rattle.words.specs.Refusals.{OUTSIDE, NO-ROOM, BAD-DATA, BAD-SIGN, CUT-SHORT}
+use Rattle.words.specs.Buffers.{needing}
 use Rattle.words.specs.declared.RoomRefusal.{RoomRefusal}
-use Rattle.words.proofs.Papers.{success-refused, refused-success, same-told, on-success-of}
-use Rattle.words.proofs.Buffers.{room-success, untouched, filled}
+use Rattle.words.proofs.Papers.{on-success-of}
+use Rattle.words.proofs.Plain.{Plainly, plainly-success, plainly-refused, plainly-by, plainly-cond, plainly-then, plainly-on}
+use Rattle.words.proofs.Buffers.{room-success, full-of, untouched, filled}
 use Rattle.cell.specs.Cells.{Cell, held, tooSmall, magnitudeAt, bytesLeft, cellAt}
 use Rattle.cell_big_data.specs.Big.{isBigDataBlock}
 use Rattle.words.specs.Words.{word16}
@@ -66,90 +67,64 @@ from-pieces image base minor raw offset old new n t x =
 
 -- ---- no refusal of the data itself is NO ROOM
 
-abbrev Other : {A : Type 0} → Paper A → Type 0
-Other a = (t : Told) → a ≡ refused t → t .number ≡ NO-ROOM → ⊥
-
-module _ {A : Type 0} where
-  other-success : (v : A) → Other (success v)
-  other-success v t e n = success-refused e
-
-  other-by : (k p : ℕ) → (k ≡ NO-ROOM → ⊥) → Other {A = A} (refused (by k p))
-  other-by k p h t e n = h (ap (λ (u : Told). u .number) (same-told e) ∙ n)
-
-  other-cond : (b : Bool) {x y : Paper A} → Other x → Other y → Other (cond b x y)
-  other-cond true p q = p
-  other-cond false p q = q
-
-  other-then : {B : Type 0} (a : Paper B) {x : Paper A} → Other a → Other x → Other (andThen a x)
-  unfolding andThen
-  other-then (success v) p q = q
-  other-then (refused u) p q = λ t e n. p u refl (ap (λ (w : Told). w .number) (same-told e) ∙ n)
-
-  other-on : {B : Type 0} (f : B → A) (a : Paper B) → Other a → Other (onSuccess f a)
-  unfolding onSuccess
-  other-on f (success v) p = λ t e n. success-refused e
-  other-on f (refused u) p = λ t e n. p u refl (ap (λ (w : Told). w .number) (same-told e) ∙ n)
-
-cell-other : (image : List ℕ) (p least : ℕ) → Other (cellAt image p least)
+cell-plain : (image : List ℕ) (p least : ℕ) → Plainly (cellAt image p least)
 unfolding cellAt
-cell-other image p least =
-    other-cond (ltb (length image) p) (other-by 2 p (omega arith))
-    (other-cond (ltb (bytesLeft image p) 4) (other-by CUT-SHORT p (omega arith))
-    (other-cond (ltb (bytesLeft image p) (magnitudeAt image p)) (other-by CUT-SHORT p (omega arith))
-    (other-cond (ltb (magnitudeAt image p) least) (other-success _) (other-success _))))
+cell-plain image p least =
+    plainly-cond (ltb (length image) p) (plainly-by OUTSIDE p (omega arith))
+    (plainly-cond (ltb (bytesLeft image p) 4) (plainly-by CUT-SHORT p (omega arith))
+    (plainly-cond (ltb (bytesLeft image p) (magnitudeAt image p)) (plainly-by CUT-SHORT p (omega arith))
+    (plainly-cond (ltb (magnitudeAt image p) least) (plainly-success _) (plainly-success _))))
 
-sized-other : (a : Paper Cell) → Other a → Other (sized a)
-sized-other (success (held z)) p = other-success tt
-sized-other (success (tooSmall z)) p = other-by BAD-DATA 0 (omega arith)
-sized-other (refused u) p = λ t e n. p u refl (ap (λ (w : Told). w .number) (same-told e) ∙ n)
+sized-plain : (a : Paper Cell) → Plainly a → Plainly (sized a)
+sized-plain (success (held z)) p = plainly-success tt
+sized-plain (success (tooSmall z)) p = plainly-by BAD-DATA 0 (omega arith)
+sized-plain (refused u) p = plainly-refused (p u refl)
 
-judged-other : (image : List ℕ) (qs : List Piece) → Other (judged image qs)
+judged-plain : (image : List ℕ) (qs : List Piece) → Plainly (judged image qs)
 unfolding judged holds
-judged-other image [] = other-success tt
-judged-other image (q ∷ qs) = other-then (holds image q) (sized-other (cellAt image (q .cell) (4 + q .long)) (cell-other image (q .cell) (4 + q .long))) (judged-other image qs)
+judged-plain image [] = plainly-success tt
+judged-plain image (q ∷ qs) = plainly-then (holds image q) (sized-plain (cellAt image (q .cell) (4 + q .long)) (cell-plain image (q .cell) (4 + q .long))) (judged-plain image qs)
 
-head-other : (image : List ℕ) (p n : ℕ) (large : Bool) → Other (bigHead image p n large)
+head-plain : (image : List ℕ) (p n : ℕ) (large : Bool) → Plainly (bigHead image p n large)
 unfolding bigHead
-head-other image p n large =
-    other-cond (ltb (length (drop p image)) 12) (other-by CUT-SHORT p (omega arith))
-    (other-cond (not (isBigDataBlock (drop p image))) (other-by BAD-SIGN p (omega arith))
-    (other-cond (not large) (other-by BAD-DATA 0 (omega arith))
-    (other-cond (not (eqb (word16 (drop p image) 6) n)) (other-by BAD-DATA 0 (omega arith)) (other-success tt))))
+head-plain image p n large =
+    plainly-cond (ltb (length (drop p image)) 12) (plainly-by CUT-SHORT p (omega arith))
+    (plainly-cond (not (isBigDataBlock (drop p image))) (plainly-by BAD-SIGN p (omega arith))
+    (plainly-cond (not large) (plainly-by BAD-DATA 0 (omega arith))
+    (plainly-cond (not (eqb (word16 (drop p image) 6) n)) (plainly-by BAD-DATA 0 (omega arith)) (plainly-success tt))))
 
-big-other : (image : List ℕ) (p n : ℕ) → Other (bigAt image p n)
+big-plain : (image : List ℕ) (p n : ℕ) → Plainly (bigAt image p n)
 unfolding bigAt
-big-other image p n = go (cellAt image p 12) (cell-other image p 12)
+big-plain image p n = go (cellAt image p 12) (cell-plain image p 12)
   where
-    go : (a : Paper Cell) → Other a → Other (bigIn image p n a)
-    go (success (held z)) q = head-other image p n true
-    go (success (tooSmall z)) q = head-other image p n false
-    go (refused u) q = λ t e m. q u refl (ap (λ (w : Told). w .number) (same-told e) ∙ m)
+    go : (a : Paper Cell) → Plainly a → Plainly (bigIn image p n a)
+    go (success (held z)) q = head-plain image p n true
+    go (success (tooSmall z)) q = head-plain image p n false
+    go (refused u) q = plainly-refused (q u refl)
 
-source-other : (image : List ℕ) (base minor : ℕ) (resident : Bool) (size offset : ℕ) → Other (sourceOf image base minor resident size offset)
+source-plain : (image : List ℕ) (base minor : ℕ) (resident : Bool) (size offset : ℕ) → Plainly (sourceOf image base minor resident size offset)
 unfolding sourceOf inSegments fromList holds
-source-other image base minor resident size offset =
-    other-cond resident (other-cond (ltb 4 size) (other-by BAD-DATA 0 (omega arith)) (other-success field))
-    (other-cond (eqb size 0) (other-success (pieces []))
-    (other-cond (isBig minor size)
-    (other-then (bigAt image (offset + base) (segmentsNeeded size)) (big-other image (offset + base) (segmentsNeeded size))
-    (other-then (holds image (listPiece (listOf image base (offset + base)) size)) (sized-other _ (cell-other image _ _)) (other-on _ (judged image (segmentsAt image base (listOf image base (offset + base)) size)) (judged-other image _))))
-    (other-on _ (judged image (piece (offset + base) size ∷ [])) (judged-other image _))))
+source-plain image base minor resident size offset =
+    plainly-cond resident (plainly-cond (ltb 4 size) (plainly-by BAD-DATA 0 (omega arith)) (plainly-success field))
+    (plainly-cond (eqb size 0) (plainly-success (pieces []))
+    (plainly-cond (isBig minor size)
+    (plainly-then (bigAt image (offset + base) (segmentsNeeded size)) (big-plain image (offset + base) (segmentsNeeded size))
+    (plainly-then (holds image (listPiece (listOf image base (offset + base)) size)) (sized-plain _ (cell-plain image _ _)) (plainly-on _ (judged image (segmentsAt image base (listOf image base (offset + base)) size)) (judged-plain image _))))
+    (plainly-on _ (judged image (piece (offset + base) size ∷ [])) (judged-plain image _))))
 
 module _ (image : List ℕ) (base minor raw offset : ℕ) (old new : List ℕ) where
+  -- where it is refused for want of room, the data was found
+  found-full : {f : RoomRefusal} → DataAnswered image base minor raw offset old (Refused f) new → f .number ≡ NO-ROOM
+      → (f .position ≡ 0) × (f .places ≡ sizeOf raw) × (length old < sizeOf raw) × ((s : Source) × (dataOf image base minor raw offset ≡ success s))
+  unfolding dataIn dataOf
+  found-full x n =
+      let a : Paper Source = dataOf image base minor raw offset in
+      let p = source-plain image base minor (isResident raw) (sizeOf raw) offset in
+      let y = full-of needing (length old) (onSuccess (λ s. sizeOf raw) a) (plainly-on _ a p) (sym (x .answer)) n in
+      let z = on-success-of (λ s. sizeOf raw) a (y .1) in
+      let k : y .0 ≡ sizeOf raw = sym (z .2) in
+      let l : length old < y .0 = y .3 in
+      (sym (ap (λ (u : Told). u .position) (y .2)), sym (ap (λ (u : Told). u .places) (y .2)) ∙ k, omega arith, (z .0, z .1))
+
   pub was-refused : (f : RoomRefusal) → DataAnswered image base minor raw offset old (Refused f) new → WasRefused image base minor raw offset old new f
-  unfolding dataIn dataOf inRoom onSuccess
-  was-refused f x =
-      record { untouched = untouched x refl; no-room = λ n. go (dataOf image base minor raw offset) refl n (x .answer) }
-    where
-      go : (a : Paper Source) → dataOf image base minor raw offset ≡ a → f .number ≡ NO-ROOM
-          → refused (toldOfRoom f) ≡ inRoom needing (length old) (onSuccess (λ s. sizeOf raw) a)
-          → (f .position ≡ 0) × (f .places ≡ sizeOf raw) × (length old < sizeOf raw) × ((s : Source) × (dataOf image base minor raw offset ≡ success s))
-      go (refused t) d n e =
-          absurd (source-other image base minor (isResident raw) (sizeOf raw) offset t d (ap (λ (u : Told). u .number) (sym (same-told e)) ∙ n))
-      go (success s) d n e = full (ltb (length old) (sizeOf raw)) refl e
-        where
-          full : (b : Bool) → ltb (length old) (sizeOf raw) ≡ b → refused (toldOfRoom f) ≡ cond b (refused (needing (sizeOf raw))) (success (sizeOf raw))
-              → (f .position ≡ 0) × (f .places ≡ sizeOf raw) × (length old < sizeOf raw) × ((s : Source) × (dataOf image base minor raw offset ≡ success s))
-          full true l q =
-              (ap (λ (u : Told). u .position) (same-told q), ap (λ (u : Told). u .places) (same-told q), ltb-true _ _ l, (s, d))
-          full false l q = absurd (refused-success q)
+  was-refused f x = record { untouched = untouched x refl; no-room = found-full x }

@@ -1,14 +1,16 @@
 -- Laws of answers that come with a lent buffer. Assumes nothing.
-use mathlib.Core.Path.{_≡_, refl, sym, _∙_}
+use mathlib.Core.Path.{_≡_, refl, ap, sym, _∙_}
 use mathlib.Core.List.{List, _++_}
 use mathlib.Core.Bool.{Bool, true, false, cond}
 use Prim.Native.Nat.{ℕ, _≤_, _<_}
-use borrow.Author.Tests.{lt-ltb, le-ltb, ltb-false}
+use borrow.Author.Tests.{lt-ltb, le-ltb, ltb-true, ltb-false}
 use lib.Dec.{ltb}
 use lib.ListN.{length, drop}
+use Rattle.words.specs.Refusals.{NO-ROOM}
 use Rattle.words.specs.Paper.{Told, Paper, success, refused}
 use Rattle.words.specs.Buffers.{inRoom, bufferAfter, Answered}
-use Rattle.words.proofs.Papers.{success-refused, same-success}
+use Rattle.words.proofs.Papers.{success-refused, same-success, same-told}
+use Rattle.words.proofs.Plain.{Plainly}
 
 -- ---- the room
 
@@ -36,6 +38,28 @@ module _ {A : Type 0} (full : A → Told) (room : ℕ) where
           let m : full u .places ≤ room = ltb-false _ _ x in
           (y, rw (same-success y) at m)
   room-success (refused t) v q = absurd (success-refused (sym q))
+
+  -- NO ROOM is given where all else succeeds and the places are too few, and tells what `full` says of that success
+  pub full-of : (a : Paper A) {t : Told} → Plainly a → inRoom full room a ≡ refused t → t .number ≡ NO-ROOM
+      → (v : A) × (a ≡ success v) × (full v ≡ t) × (room < full v .places)
+  unfolding inRoom
+  full-of (success v) {t} p q n = go (ltb room (full v .places)) refl q
+    where
+      go : (b : Bool) → ltb room (full v .places) ≡ b → cond b (refused (full v)) (success v) ≡ refused t
+          → (u : A) × (success v ≡ success u) × (full u ≡ t) × (room < full u .places)
+      go true x y = (v, refl, same-told y, ltb-true _ _ x)
+      go false x y = absurd (success-refused y)
+  full-of (refused u) p q n = absurd (p u refl .other (ap (λ (t : Told). t .number) (same-told q) ∙ n))
+
+  -- and a refusal by another number is the answer's own
+  pub other-of : (a : Paper A) {t : Told} → ((v : A) → full v .number ≡ NO-ROOM) → inRoom full room a ≡ refused t → (t .number ≡ NO-ROOM → ⊥) → a ≡ refused t
+  unfolding inRoom
+  other-of (success v) {t} f q h = go (ltb room (full v .places)) q
+    where
+      go : (b : Bool) → cond b (refused (full v)) (success v) ≡ refused t → success v ≡ refused t
+      go true y = absurd (h (sym (ap (λ (u : Told). u .number) (same-told y)) ∙ f v))
+      go false y = y
+  other-of (refused u) f q h = q
 
 -- ---- the buffer
 

@@ -1,5 +1,5 @@
 -- The answers of the walk from a key record and of one leaf list, each from what its code has found. Assumes nothing.
-use mathlib.Core.Path.{_≡_, refl, ap, sym, subst, _∙_}
+use mathlib.Core.Path.{_≡_, refl, ap, sym, _∙_}
 use mathlib.Core.List.{List, [], _∷_, _++_}
 use mathlib.Core.Bool.{Bool, true, false}
 use Prim.Native.Nat.{ℕ, _+_, _≤_, _<_}
@@ -25,7 +25,7 @@ use Rattle.sub_key_walk.specs.Judge.{fault, judge}
 use Rattle.sub_key_walk.specs.Answers.{BUDGET-LIMIT, COUNT-LIMIT, none, measured, fullOf, answerOf, reachedBy, keptBy, walkTold, walkPaper, WalkAnswered}
 use Rattle.sub_key_walk.specs.Leaf.{readOf, fullLeaf, leafAnswerOf, keptFrom, LeafAnswered}
 use Rattle.sub_key_walk.specs.Free.{countsOf}
-use Rattle.sub_key_walk.specs.Walk.{Whole, Filled, Bounded, Roomy}
+use Rattle.sub_key_walk.specs.Walk.{Whole, Filled, Roomy}
 use Rattle.sub_key_walk.specs.declared.Counts.{Counts}
 use Rattle.sub_key_walk.specs.declared.WalkRefusal.{WalkRefusal}
 use Rattle.sub_key_walk.specs.declared.WalkAnswer.{WalkAnswer}
@@ -66,13 +66,6 @@ module _ (s : List ℕ) (base count list budget : ℕ) where
   pub measured-walk : Started count budget → measured s base count list budget ≡ judge budget none (walkFrom s base list)
   unfolding measured
   measured-walk d = rw (le-ltb BUDGET-LIMIT budget (d .small), le-ltb COUNT-LIMIT count (d .few), ne-eqb count 0 (d .some))
-
-  -- the walk from the counts that the code starts with
-  pub start-walk : {start : Counts} → start ≡ none → Started count budget → judge budget start (walkFrom s base list) ≡ measured s base count list budget
-  start-walk e d = ap (λ (st : Counts). judge budget st (walkFrom s base list)) e ∙ sym (measured-walk d)
-
-pub start-bounded : {budget : ℕ} {start : Counts} → start ≡ none → Bounded budget start
-start-bounded {budget} e = subst (Bounded budget) (sym e) (record { every = omega arith; some-entries = omega arith; some-lists = omega arith })
 
 -- a walk that is measured counts all lists that are reached
 pub reached-walk : (s : List ℕ) (base count list : ℕ) → (count ≡ 0 → ⊥) → reachedBy s base count list ≡ walkFrom s base list

@@ -22,10 +22,10 @@ use Rattle.sub_key_list.specs.declared.SubKeyList.the-variants as found
 use Rattle.words.specs.declared.Refusal.{Refusal}
 use Rattle.sub_key_list.proofs.Leaves.{leaf-all}
 use Rattle.sub_key_walk.specs.Trace.{Event, deep, bad, index, leaf, each, below, trace, keptIn, keptOf, listsIn, entriesIn, droppedIn, droppedOf}
-use Rattle.sub_key_walk.specs.Judge.{fault, counted, inBudget, one, after, judge}
+use Rattle.sub_key_walk.specs.Judge.{fault, counts, counted, inBudget, one, after, judge}
 use Rattle.sub_key_walk.specs.Answers.{BUDGET-LIMIT, walkPaper}
 use Rattle.sub_key_walk.specs.Leaf.{readOf}
-use Rattle.sub_key_walk.specs.Walk.{Bounded, Small, withIndex, withLeaf, Walk}
+use Rattle.sub_key_walk.specs.Walk.{Bounded, Small, withLeaf, Walk}
 use Rattle.sub_key_walk.specs.declared.Counts.{Counts}
 use Rattle.sub_key_walk.specs.declared.LeafRead.{LeafRead}
 use Rattle.sub_key_walk.specs.declared.WalkRefusal.{WalkRefusal}
@@ -181,6 +181,10 @@ walk-success w q = sym (w .answer) ∙ ap walkPaper q
 pub counts-path : {a b : Counts} → a .kept ≡ b .kept → a .lists ≡ b .lists → a .entries ≡ b .entries → a .dropped ≡ b .dropped → a ≡ b
 counts-path p q r d = λ i. record { kept = p i; lists = q i; entries = r i; dropped = d i }
 
+-- an `ri` list counts as a list and gives nothing else
+abbrev pub withIndex : Counts → Counts
+withIndex st = counts (st .kept) (st .lists + 1) (st .entries) (st .dropped)
+
 index-counted : (st : Counts) (p n : ℕ) → withIndex st ≡ counted st (index p n)
 unfolding counted keptIn listsIn entriesIn droppedIn
 index-counted st p n = counts-path (omega arith) refl (omega arith) (omega arith)
@@ -271,29 +275,29 @@ module _ {hd : ℕ → ℕ → Paper Listed} {budget : ℕ} {st : Counts} {level
       (record { every = omega arith; some-entries = omega arith; some-lists = omega arith })
 
   -- the lists below an `ri` list, from the counts that the code builds
-  module _ {l : IndexList} (x : Reached hd budget st levels s base offset (found.Index l)) {start : Counts} (q : start ≡ withIndex st) where
-    pub index-bounded : Bounded budget start
+  module _ {l : IndexList} (x : Reached hd budget st levels s base offset (found.Index l)) where
+    pub index-bounded : Bounded budget (withIndex st)
     index-bounded =
         let u : st .lists ≡ budget → ⊥ = x .unspent in
         let few : Bounded budget st = x .few in
-        subst (Bounded budget) (sym q) (record { every = omega arith; some-entries = omega arith; some-lists = omega arith })
+        record { every = omega arith; some-entries = omega arith; some-lists = omega arith }
 
-    below-index : judge budget start (each (trace hd (levels - 1) s base) s (l .count) (offset + base + 8)) ≡ judge budget st (trace hd levels s base offset)
+    below-index : judge budget (withIndex st) (each (trace hd (levels - 1) s base) s (l .count) (offset + base + 8)) ≡ judge budget st (trace hd levels s base offset)
     below-index =
-        ap (λ (c : Counts). judge budget c (each (trace hd (levels - 1) s base) s (l .count) (offset + base + 8))) (q ∙ index-counted st (offset + base) (l .count))
+        ap (λ (c : Counts). judge budget c (each (trace hd (levels - 1) s base) s (l .count) (offset + base + 8))) (index-counted st (offset + base) (l .count))
         ∙ judge-index hd budget st levels s base offset (x .deeper) (x .unspent) (l .count) (x .is)
 
     module _ {sum : Counts} {pos i : ℕ}
-        (v : Indexing budget (trace hd (levels - 1) s base) s (l .count) (offset + base + 8) start sum pos i) where
+        (v : Indexing budget (trace hd (levels - 1) s base) s (l .count) (offset + base + 8) (withIndex st) sum pos i) where
       pub walk-index : l .count ≤ i → {w : WalkAnswer} → w ≡ Read sum → Walk budget st (trace hd levels s base offset) w
-      walk-index m e =
-          walk-read budget st (trace hd levels s base offset) sum e
-          (indexing-answer budget (trace hd (levels - 1) s base) s (l .count) (offset + base + 8) start sum pos i v m ∙ below-index)
+      walk-index m q =
+          walk-read budget st (trace hd levels s base offset) sum q
+          (indexing-answer budget (trace hd (levels - 1) s base) s (l .count) (offset + base + 8) (withIndex st) sum pos i v m ∙ below-index)
           (v .few)
 
       pub walk-index-refused : i < l .count → {next : ℕ} → next ≡ word32 s pos → {w : WalkAnswer} {f : WalkRefusal}
           → Walk budget sum (trace hd (levels - 1) s base next) w → w ≡ Refused f → Walk budget st (trace hd levels s base offset) (Refused f)
       walk-index-refused m {next} d {w} {f} y e =
           walk-refused budget st (trace hd levels s base offset) refl
-          (indexing-refused budget (trace hd (levels - 1) s base) s (l .count) (offset + base + 8) start sum pos i v m next d y (ap walkPaper e)
+          (indexing-refused budget (trace hd (levels - 1) s base) s (l .count) (offset + base + 8) (withIndex st) sum pos i v m next d y (ap walkPaper e)
           ∙ below-index)

@@ -51,10 +51,6 @@ pub record Small (r : LeafRead) : Type 0 where
   pub every : r .kept + r .dropped ≡ r .entries
   pub few : r .entries ≤ 65535
 
--- the counts with an `ri` list more, which gives nothing else
-abbrev pub withIndex : Counts → Counts
-withIndex st = counts (st .kept) (st .lists + 1) (st .entries) (st .dropped)
-
 -- the counts with a leaf list more, by what it gave
 abbrev pub withLeaf : Counts → LeafRead → Counts
 withLeaf st r = counts (st .kept + r .kept) (st .lists + 1) (st .entries + r .entries) (st .dropped + r .dropped)

@@ -10,10 +10,10 @@ ghost use Rattle.words.specs.Words.{word32};
 ghost use Rattle.words.specs.Paper.{refused, noRoom};
 ghost use Rattle.sub_key_list.specs.Leaves.{keep, leafKept, dropOne, leafDropped, leafOf};
 ghost use Rattle.sub_key_walk.specs.Trace.{trace, ordinary, keptOf};
-ghost use Rattle.sub_key_walk.specs.Judge.{fault};
-ghost use Rattle.sub_key_walk.specs.Answers.{BUDGET-LIMIT, none, measured, walkTold, walkPaper, WalkAnswered};
+ghost use Rattle.sub_key_walk.specs.Judge.{fault, counts};
+ghost use Rattle.sub_key_walk.specs.Answers.{BUDGET-LIMIT, measured, walkTold, walkPaper, WalkAnswered};
 ghost use Rattle.sub_key_walk.specs.Leaf.{readOf, LeafAnswered};
-ghost use Rattle.sub_key_walk.specs.Walk.{Entries, Stands, Whole, Filled, Bounded, Small, withIndex, withLeaf, Walk, Roomy};
+ghost use Rattle.sub_key_walk.specs.Walk.{Entries, Stands, Whole, Filled, Bounded, Small, withLeaf, Walk, Roomy};
 
 // The greatest budget, the greatest count of subkeys or of values, and the levels of lists.
 const BUDGET_LIMIT: u32 = 65536;
@@ -92,46 +92,28 @@ fn refuse(number: u32, position: usize, lists: u32) -> WalkAnswer
     WalkAnswer::Refused(refusal(number, position, lists))
 }
 
-// The counts where no list is read yet.
-fn nothing_read() -> Counts
-    ensures { λ r. ⌜ r ≡ none ⌝ }
+// What is read so far: offsets kept, lists, entries and those dropped.
+fn read_so_far(kept: u32, lists: u32, entries: u32, dropped: u32) -> WalkAnswer
+    ensures { λ r. ⌜ r ≡ WalkAnswer.Read (counts kept lists entries dropped) ⌝ }
 {
-    Counts {
-        kept: 0,
-        lists: 0,
-        entries: 0,
-        dropped: 0,
-    }
-}
-
-// The counts with an `ri` list more, which gives nothing else.
-fn with_index(prior: Counts) -> Counts
-    requires { ⌜ Bounded 65535 prior ⌝ }
-    ensures { λ r. ⌜ r ≡ withIndex prior ⌝ }
-{
-    Counts {
-        kept: prior.kept,
-        lists: prior.lists + 1,
-        entries: prior.entries,
-        dropped: prior.dropped,
-    }
-}
-
-// The counts with a leaf list more, by what it gave.
-fn with_leaf(prior: Counts, read: LeafRead) -> Counts
-    requires { ⌜ Bounded 65535 prior ⌝ ∗ ⌜ Small read ⌝ }
-    ensures { λ r. ⌜ r ≡ withLeaf prior read ⌝ }
-{
-    let kept = prior.kept + read.kept;
-    let lists = prior.lists + 1;
-    let entries = prior.entries + read.entries;
-    let dropped = prior.dropped + read.dropped;
-    Counts {
+    WalkAnswer::Read(Counts {
         kept,
         lists,
         entries,
         dropped,
-    }
+    })
+}
+
+// The same with a leaf list more, by what it gave.
+fn with_leaf(kept: u32, lists: u32, entries: u32, dropped: u32, read: LeafRead) -> WalkAnswer
+    requires { ⌜ Bounded 65535 (counts kept lists entries dropped) ⌝ ∗ ⌜ Small read ⌝ }
+    ensures { λ r. ⌜ r ≡ WalkAnswer.Read (withLeaf (counts kept lists entries dropped) read) ⌝ }
+{
+    let kept_after = kept + read.kept;
+    let lists_after = lists + 1;
+    let entries_after = entries + read.entries;
+    let dropped_after = dropped + read.dropped;
+    read_so_far(kept_after, lists_after, entries_after, dropped_after)
 }
 
 // The word at a place whose four bytes are there.
@@ -325,20 +307,23 @@ pub fn leaf_sub_keys(image: &[u8], base: u32, position: usize, out: &mut [u32]) 
     }
 }
 
-// Measures the walk of the list at an offset, with so many levels left, from the counts prior to it.
+// Measures the walk of the list at an offset, with so many levels left, after so many offsets kept, lists read, entries and entries
+// dropped.
 fn measure(
     image: &[u8],
     base: u32,
     budget: u32,
     levels: u32,
     offset: u32,
-    prior: Counts,
+    kept: u32,
+    lists: u32,
+    entries: u32,
+    dropped: u32,
 ) -> WalkAnswer
-    requires { ⌜ budget ≤ BUDGET-LIMIT ⌝ ∗ ⌜ Bounded budget prior ⌝ }
-    ensures { λ r. ⌜ Walk budget prior (trace (ordinary (now (image .entry))) levels (now (image .entry)) base offset) r ⌝ }
+    requires { ⌜ budget ≤ BUDGET-LIMIT ⌝ ∗ ⌜ Bounded budget (counts kept lists entries dropped) ⌝ }
+    ensures { λ r. ⌜ Walk budget (counts kept lists entries dropped) (trace (ordinary (now (image .entry))) levels (now (image .entry)) base offset) r ⌝ }
 {
     let position = (offset as usize) + (base as usize);
-    let lists = prior.lists;
     if levels == 0 {
         return refuse(words::TOO_DEEP, position, lists);
     }
@@ -349,27 +334,33 @@ fn measure(
         SubKeyList::Refused(fault) => refuse(fault.number, position, lists),
         SubKeyList::Leaf(leaf) => {
             let read = read_leaf(image, base, position, leaf);
-            WalkAnswer::Read(with_leaf(prior, read))
+            with_leaf(kept, lists, entries, dropped, read)
         }
         SubKeyList::Index(index) => {
             let count = index.count;
-            let mut sum = with_index(prior);
+            let mut k = kept;
+            let mut l = lists + 1;
+            let mut e = entries;
+            let mut d = dropped;
             let mut pos = position + 8;
             let mut i: u16 = 0;
             while i < count {
                 let next = word(image, pos);
-                match measure(image, base, budget, levels - 1, next, sum) {
+                match measure(image, base, budget, levels - 1, next, k, l, e, d) {
                     WalkAnswer::Refused(fault) => {
                         return WalkAnswer::Refused(fault);
                     }
-                    WalkAnswer::Read(after) => {
-                        sum = after;
+                    WalkAnswer::Read(sum) => {
+                        k = sum.kept;
+                        l = sum.lists;
+                        e = sum.entries;
+                        d = sum.dropped;
                     }
                 }
                 pos = pos + 4;
                 i = i + 1;
             }
-            WalkAnswer::Read(sum)
+            read_so_far(k, l, e, d)
         }
     }
 }
@@ -416,7 +407,6 @@ fn fill(
 pub fn sub_key_counts(image: &[u8], base: u32, count: u32, list: u32, budget: u32) -> WalkAnswer
     ensures { λ r. ⌜ walkPaper r ≡ measured (now (image .entry)) base count list budget ⌝ }
 {
-    let start = nothing_read();
     if BUDGET_LIMIT < budget {
         return refuse(words::BAD_BUDGET, 0, 0);
     }
@@ -424,9 +414,9 @@ pub fn sub_key_counts(image: &[u8], base: u32, count: u32, list: u32, budget: u3
         return refuse(words::TOO_MANY, 0, 0);
     }
     if count == 0 {
-        return WalkAnswer::Read(start);
+        return read_so_far(0, 0, 0, 0);
     }
-    measure(image, base, budget, LEVELS, list, start)
+    measure(image, base, budget, LEVELS, list, 0, 0, 0, 0)
 }
 
 // The subkeys of a key record with a subkey count and the offset of its list, into `out`.

@@ -1,20 +1,16 @@
-use mathlib.Core.Path.{ap, _∙_}
-use native.Mathlib.Omega.{arith}
-use Rattle.words.specs.Paper.{success}
-use Rattle.sub_key_walk.proofs.Answers.{measured-budget, measured-many, measured-none, start-bounded, start-walk}
+use mathlib.Core.Path.{sym, ap, _∙_}
+use Rattle.sub_key_walk.specs.Answers.{walkPaper}
+use Rattle.sub_key_walk.proofs.Answers.{measured-budget, measured-many, measured-none, measured-walk}
 use borrow.Author.Needs.{needs}
 use Rattle.sub_key_walk.proofs.sub_key_counts.Statement.{statement}
 use Rattle.sub_key_walk.proofs.sub_key_counts.Tie as tie
-
-nothing-read-requires : tie.Need-nothing-read-requires
-nothing-read-requires c κs = search needs
 
 refuse-requires : tie.Need-refuse-requires
 refuse-requires c κs = search needs
 
 returns : tie.Need-returns
 returns c =
-    let a = c .before .before .before .before .args in
+    let a = c .before .before .before .args in
     c .refuse .ensures ∙ measured-budget (a .image .now) (a .base) (a .count) (a .list) (a .budget) (c .before .if1 .taken)
 
 refuse-requires-2 : tie.Need-refuse-requires-2
@@ -22,33 +18,34 @@ refuse-requires-2 c κs = search needs
 
 returns-2 : tie.Need-returns-2
 returns-2 c =
-    let a = c .before .before .before .before .before .args in
+    let a = c .before .before .before .before .args in
     c .refuse2 .ensures ∙ measured-many (a .image .now) (a .base) (a .count) (a .list) (a .budget) (c .before .before .if1 .left) (c .before .if2 .taken)
+
+read-so-far-requires : tie.Need-read-so-far-requires
+read-so-far-requires c κs = search needs
 
 returns-3 : tie.Need-returns-3
 returns-3 c =
     let a = c .before .before .before .before .before .args in
-    ap success (c .before .before .before .nothing-read .ensures) ∙ measured-none (a .image .now) (a .base) (a .count) (a .list) (a .budget) (c .before .before .if1 .left) (c .before .if2 .left) (c .if3 .taken)
+    ap walkPaper (c .read-so-far .ensures) ∙ measured-none (a .image .now) (a .base) (a .count) (a .list) (a .budget) (c .before .before .before .if1 .left) (c .before .before .if2 .left) (c .before .if3 .taken)
 
 measure-requires : tie.Need-measure-requires
-measure-requires c κs =
-    let small = c .before .before .if1 .left in
-    (omega arith, start-bounded (c .before .before .before .nothing-read .ensures))
+measure-requires c κs = search needs
 
 returns-4 : tie.Need-returns-4
 returns-4 c =
-    let a = c .before .before .before .before .before .before .args in
-    c .measure .ensures .answer ∙ start-walk (a .image .now) (a .base) (a .count) (a .list) (a .budget) (c .before .before .before .before .nothing-read .ensures) (record { small = c .before .before .before .if1 .left; few = c .before .before .if2 .left; some = c .before .if3 .left })
+    let a = c .before .before .before .before .before .args in
+    c .measure .ensures .answer ∙ sym (measured-walk (a .image .now) (a .base) (a .count) (a .list) (a .budget) (record { small = c .before .before .before .if1 .left; few = c .before .before .if2 .left; some = c .before .if3 .left }))
 
 pub sub-key-counts-spec : {M : Type 1} → statement M
 sub-key-counts-spec =
     tie.close
     (tie.spec
-    nothing-read-requires
     refuse-requires
     returns
     refuse-requires-2
     returns-2
+    read-so-far-requires
     returns-3
     measure-requires
     returns-4)

@@ -5,27 +5,27 @@ mod variants;
 use std::hint::black_box;
 use std::time::Instant;
 
-type Walk = unsafe extern "C" fn(*const u8, usize, u32, u32, u32, u32, *mut u32, usize, *mut [u64; 4]) -> u32;
+type Walk = unsafe extern "C" fn(*const u8, usize, u32, u32, u32, u32, *mut u32, usize, *mut [u64; 5]) -> u32;
 type Sum = unsafe extern "C" fn(*const u8, usize) -> u32;
 
 extern "C" {
     fn speed_checksum(bytes: *const u8, len: usize) -> u32;
-    fn speed_walk(image: *const u8, len: usize, base: u32, count: u32, list: u32, budget: u32, out: *mut u32, places: usize, told: *mut [u64; 4]) -> u32;
+    fn speed_walk(image: *const u8, len: usize, base: u32, count: u32, list: u32, budget: u32, out: *mut u32, places: usize, told: *mut [u64; 5]) -> u32;
 }
 
 /// A walk in Rust behind the same signature as the one in Rattle, so that both are called alike.
 macro_rules! exported {
     ($name:ident, $walk:path) => {
-        unsafe extern "C" fn $name(image: *const u8, len: usize, base: u32, count: u32, list: u32, budget: u32, out: *mut u32, places: usize, told: *mut [u64; 4]) -> u32 {
+        unsafe extern "C" fn $name(image: *const u8, len: usize, base: u32, count: u32, list: u32, budget: u32, out: *mut u32, places: usize, told: *mut [u64; 5]) -> u32 {
             let (image, out) = unsafe { (std::slice::from_raw_parts(image, len), std::slice::from_raw_parts_mut(out, places)) };
             let told = unsafe { &mut *told };
             match $walk(image, base, count, list, budget, out) {
                 Ok(c) => {
-                    *told = [0, c.lists as u64, c.entries as u64, c.kept as u64];
+                    *told = [0, c.lists as u64, c.entries as u64, c.kept as u64, (c.entries - c.kept) as u64];
                     0
                 }
                 Err(r) => {
-                    *told = [r.position as u64, r.lists as u64, r.entries as u64, r.places as u64];
+                    *told = [r.position as u64, r.lists as u64, r.entries as u64, r.places as u64, (r.entries - r.places) as u64];
                     r.number
                 }
             }
@@ -68,18 +68,18 @@ struct Case {
 }
 
 impl Case {
-    fn call(&self, walk: Walk, out: &mut [u32], told: &mut [u64; 4]) -> u32 {
+    fn call(&self, walk: Walk, out: &mut [u32], told: &mut [u64; 5]) -> u32 {
         let (image, out) = (black_box(&self.image[..]), black_box(out));
         unsafe { walk(image.as_ptr(), image.len(), self.base, self.count, self.list, self.budget, out.as_mut_ptr(), out.len(), told) }
     }
 
     /// The answers of Rattle and of every walk in Rust are the same, and so are the buffers after them. Gives the number.
-    fn compare(&self, places: usize, old: u32) -> (u32, [u64; 4]) {
+    fn compare(&self, places: usize, old: u32) -> (u32, [u64; 5]) {
         let (mut first, mut second) = (vec![old; places], vec![old; places]);
-        let mut told = [u64::MAX; 4];
+        let mut told = [u64::MAX; 5];
         let number = self.call(speed_walk, &mut first, &mut told);
         for (name, walk) in VARIANTS.iter().chain(&[("plain", plain_walk as Walk)]) {
-            let mut also = [u64::MAX; 4];
+            let mut also = [u64::MAX; 5];
             second.fill(old);
             let n = self.call(*walk, &mut second, &mut also);
             assert_eq!((number, told), (n, also), "answers differ: {name}");
@@ -239,7 +239,7 @@ fn compare_random(rounds: usize) {
         let (case, places) = random_case(&mut r);
         let (number, told) = case.compare(places, 0xdead_beef);
         seen[number as usize] += 1;
-        dropped += (number == 0 && told[2] > told[3]) as usize;
+        dropped += (number == 0 && told[4] > 0) as usize;
     }
     let mut sums = [0usize; 4];
     for i in 0..rounds {
@@ -263,7 +263,7 @@ fn time_row(row: &mut Row, walks: &[Walk], turns: usize, buffer: &mut [u32]) {
     // a small row is called many times in one timing, each call with places of its own
     let calls = (4096 / row.places.max(1)).clamp(1, 256);
     row.times.resize(walks.len(), Vec::new());
-    let mut told = [0; 4];
+    let mut told = [0; 5];
     for turn in 0..turns {
         for k in 0..walks.len() {
             let who = (k + turn) % walks.len();

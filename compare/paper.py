@@ -23,11 +23,17 @@ MOST_BUDGET = 65_536
 
 class Refused(Exception):
     """ "A refusal returns its number, the position of the list, bin, cell or record at fault .. and, from the walk, the lists
-    read so far. Other fields are 0, except that NO ROOM also returns the places needed and the walk's entry count." """
+    read so far. Other fields are 0, except that NO ROOM also returns the places needed and the walk's entry count." Document 02,
+    order 2, of the number dropped: "with 9, given too". """
 
-    def __init__(self, number, position=0, lists=0, places=0, entries=0):
+    def __init__(self, number, position=0, lists=0, places=0, entries=0, dropped=0):
         super().__init__(number)
         self.number, self.position, self.lists, self.places, self.entries = number, position, lists, places, entries
+        self.dropped = dropped
+
+    def told(self):
+        """The refusal of a walk or of one leaf list, whole."""
+        return ["refused", self.number, self.position, self.lists, self.places, self.entries, self.dropped]
 
 
 # "All numbers are little-endian."
@@ -216,6 +222,12 @@ def kept_of(named, base):
     return [x + base for x in named if x + base < 4_294_967_296]
 
 
+def dropped_of(named, base):
+    # "A leaf entry whose offset plus base is 4,294,967,296 or more is dropped"; document 02, order 2: the number of these "is
+    # defined by its own count over the entries"
+    return sum(x + base >= 4_294_967_296 for x in named)
+
+
 def leaf(image, base, position, out):
     """One leaf list by itself: no walk reads lists, so none is told."""
     # the refusals of one list
@@ -223,14 +235,18 @@ def leaf(image, base, position, out):
     # 4: "a signature is not one expected": an `ri` list has no leaf entries
     if sign == b"ri":
         raise Refused(BAD_SIGN, position)
-    kept = kept_of([unsigned(image, position + 8 + each * i, 4) for i in range(n)], base)
+    named = [unsigned(image, position + 8 + each * i, 4) for i in range(n)]
+    kept, dropped = kept_of(named, base), dropped_of(named, base)
+    # order 2: "It equals entries minus kept (with 9, given too, minus the places needed)"
+    assert dropped == n - len(kept)
     # "9 comes after all others"; "the places needed and the walk's entry count", here the list's
     if len(kept) > len(out):
-        raise Refused(NO_ROOM, 0, 0, len(kept), n)
+        raise Refused(NO_ROOM, 0, 0, len(kept), n, dropped)
     # "On success the output is written from the first place on"
     out[:len(kept)] = kept
-    # "offsets kept .. and leaf entries, dropped ones included"
-    return kept, n
+    # "offsets kept .. and leaf entries, dropped ones included"; order 2: "Each leaf list's answer .. give the number dropped as a
+    # further number"
+    return kept, n, dropped
 
 
 def walked(image, count, offset, base, budget):
@@ -240,7 +256,7 @@ def walked(image, count, offset, base, budget):
         raise Refused(BAD_BUDGET)
     if count > MOST_COUNT:
         raise Refused(TOO_MANY)
-    kept, lists, entries = [], 0, 0
+    kept, lists, entries, dropped = [], 0, 0, 0
     # "The top list has level 1; a list named in an `ri` list lies one level lower." "Entries are followed depth first, in order."
     # What is still to be reached, the next one last:
     ahead = [(offset, 1)] if count > 0 else []
@@ -265,18 +281,22 @@ def walked(image, count, offset, base, budget):
             # "leaf entries, dropped ones included"
             entries += n
             kept.extend(kept_of(named, base))
-    # "The answer gives offsets kept, lists read, and leaf entries"
-    return kept, lists, entries
+            dropped += dropped_of(named, base)
+    # order 2: "It equals entries minus kept"
+    assert dropped == entries - len(kept)
+    # "The answer gives offsets kept, lists read, and leaf entries"; "the walk's .. give the number dropped as a further number"
+    return kept, lists, entries, dropped
 
 
 def walk(image, count, offset, base, budget, out):
-    kept, lists, entries = walked(image, count, offset, base, budget)
-    # "9 comes after all others"; "the lists read so far"; "the places needed and the walk's entry count"
+    kept, lists, entries, dropped = walked(image, count, offset, base, budget)
+    # "9 comes after all others"; "the lists read so far"; "the places needed and the walk's entry count"; order 2: "with 9,
+    # given too"
     if len(kept) > len(out):
-        raise Refused(NO_ROOM, 0, lists, len(kept), entries)
+        raise Refused(NO_ROOM, 0, lists, len(kept), entries, dropped)
     # "On success the output is written from the first place on"
     out[:len(kept)] = kept
-    return kept, lists, entries
+    return kept, lists, entries, dropped
 
 
 # ---- "Bins and cells"
@@ -530,23 +550,23 @@ def answer(tag, a, b, c, d, e, name, image):
     if tag == 5:
         out = pattern[:e]
         try:
-            kept, lists, entries = walk(image, a, b, c, d, out)
-            return ["ok", len(kept), lists, entries] + sums(kept) + [untouched(out, len(kept))]
+            kept, lists, entries, dropped = walk(image, a, b, c, d, out)
+            return ["ok", len(kept), lists, entries, dropped] + sums(kept) + [untouched(out, len(kept))]
         except Refused as r:
-            return ["refused", r.number, r.position, r.lists, r.places, r.entries, untouched(out, 0)]
+            return r.told() + [untouched(out, 0)]
     if tag == 16:
         out = pattern[:e]
         try:
-            kept, entries = leaf(image, c, a + 2 ** 32 * b, out)
-            return ["ok", len(kept), entries] + sums(kept) + [untouched(out, len(kept))]
+            kept, entries, dropped = leaf(image, c, a + 2 ** 32 * b, out)
+            return ["ok", len(kept), entries, dropped] + sums(kept) + [untouched(out, len(kept))]
         except Refused as r:
-            return ["refused", r.number, r.position, r.lists, r.places, r.entries, untouched(out, 0)]
+            return r.told() + [untouched(out, 0)]
     if tag == 17:
         try:
-            kept, lists, entries = walked(image, a, b, c, d)
-            return ["ok", len(kept), lists, entries]
+            kept, lists, entries, dropped = walked(image, a, b, c, d)
+            return ["ok", len(kept), lists, entries, dropped]
         except Refused as r:
-            return ["refused", r.number, r.position, r.lists, r.places, r.entries]
+            return r.told()
     if tag == 6:
         return with_part(image, a, key_record, 2)
     if tag == 7:

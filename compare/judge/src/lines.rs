@@ -15,7 +15,7 @@ fn fields(tag: &str) -> &'static str {
     match tag {
         "2" => "nntnnyYoYnnnnxfntnnunnngggnnn",
         "4" => "nnnx",
-        "5" => "nxxnnx",
+        "5" => "nxxxnnx",
         "6" => "nnknnnnnnnnnnnnnnnnnnKnnn",
         "7" => "nnnnnnvV",
         "8" => "nnnnnnnn",

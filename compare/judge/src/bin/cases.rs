@@ -231,6 +231,14 @@ fn list(m: &mut [u8], p: usize, kind: &[u8; 2], words: &[u32], count: u16) {
     for (i, &x) in words.iter().enumerate() { put32(m, p + 8 + 4 * i, x); }
 }
 
+/// A leaf list of some offsets, for a base. A hint, where the kind has one, is no offset of the list and lies on the other side of the
+/// drop.
+fn leaf_list(m: &mut [u8], p: usize, kind: &[u8; 2], offsets: &[u32], base: u32) {
+    let hint = |x: u32| if x.checked_add(base).is_none() { 3 } else { u32::MAX };
+    let words: Vec<u32> = offsets.iter().flat_map(|&x| [x, hint(x)].into_iter().take(if kind == b"li" { 1 } else { 2 })).collect();
+    list(m, p, kind, &words, offsets.len() as u16);
+}
+
 /// Nothing in a base block that the Rust's conversions lose: times of our days, a whole name, flags that it knows.
 fn proper(r: &mut Rng, m: &mut [u8]) {
     for at in [12, 568] { let t = 0x01d00000_00000000 + r.below(1 << 52); put64(m, at, t); }
@@ -425,6 +433,7 @@ fn boundaries(o: &mut Out<impl Write>) {
         for budget in [0, 1, 6, 7, 8, 9, BUDGET] { o.walk(1, 0, 0, budget, 1); }
         o.walk(1, 0, 0, BUDGET, 0);
     } }
+    drops(o);
     // records: the fixed part, the size, the bytes left, the signature, the name
     for (tag, fixed) in [(6, 80usize), (7, 24)] {
         let mut m = vec![0; fixed + 21];
@@ -472,6 +481,9 @@ fn boundaries(o: &mut Out<impl Write>) {
         for x in words { o.patch(at, &x.to_le_bytes()); o.record(0, 0, 1, 2, b"two"); }
         o.patch(at, &m[at..at + 4]);
     }
+    // its list drops an entry, then both
+    o.patch(32, &84u32.to_le_bytes());
+    for at in [116, 108] { o.patch(at, &(u32::MAX - 15).to_le_bytes()); for room in [0, 1, 2] { o.record(0, 16, 1, room, b"one"); } }
     // hash
     for x in [0u8, 64, 65, 90, 96, 97, 122, 123, 127, 128, 223, 224, 246, 247, 248, 254, 255] { o.case(9, &[0x20], Some(&[x])); o.case(9, &[0], Some(&[x, 0])); o.case(9, &[0], Some(&[x, 1])); }
     for m in [&b"A"[..], b"ab", b"", b"abc"] { for flags in [0, 0x20, 0xffdf] { o.case(9, &[flags], Some(m)); } }
@@ -495,6 +507,36 @@ fn boundaries(o: &mut Out<impl Write>) {
     // words at and past the end
     o.image(&[0x81, 0x92, 0xa3, 0xb4, 0xc5, 0xd6, 0xe7, 0xf8]);
     for at in (0..10).chain([u32::MAX]) { o.case(12, &[at], None); }
+}
+
+/// Walks that drop: lists of one `ri` list that each drop some, none or all, sums on both sides; rooms on both sides of what is kept, and
+/// budgets, levels and faulty lists behind entries that were dropped.
+fn drops(o: &mut Out<impl Write>) {
+    let (base, kept, dropped) = (16u32, u32::MAX - 16, u32::MAX - 15);
+    // five lists' offsets and entries; behind them an unknown one, one whose entries pass the image, and an `ri` list of two
+    let leaves: [(u32, &[u32]); 5] = [(48, &[kept, dropped]), (96, &[dropped, 5, u32::MAX]), (144, &[7, kept, dropped, kept]), (192, &[dropped, u32::MAX]), (240, &[])];
+    for kinds in [[b"li", b"lf", b"lh"], [b"lf", b"li", b"li"], [b"lh"; 3]] {
+        let mut m = vec![0; 16 + 320];
+        for (i, (at, offsets)) in leaves.into_iter().enumerate() { leaf_list(&mut m, 16 + at as usize, kinds[i % 3], offsets, base); }
+        list(&mut m, 16 + 288, b"lx", &[], 0);
+        list(&mut m, 16 + 296, b"li", &[], 65535);
+        list(&mut m, 16 + 304, b"ri", &[48, 192], 2);
+        let top = |o: &mut Out<_>, named: &[u32]| { let mut m = m.clone(); list(&mut m, 16, b"ri", named, named.len() as u16); o.image(&m); };
+        for named in [&[48][..], &[96], &[144], &[192], &[240], &[48, 96], &[96, 48], &[48, 240], &[240, 96], &[192, 192], &[192, 240, 192], &[48, 48, 48], &[96, 48, 240], &[48, 96, 144], &[304, 96], &[144, 304]] {
+            top(o, named);
+            for room in 0..7 { o.walk(1, 0, base, BUDGET, room); }
+        }
+        top(o, &[96, 304, 144]);
+        for budget in 1..8 { for room in [0, 8] { o.walk(1, 0, base, budget, room); } }
+        // those two, outside, 7 bytes left, itself
+        for fault in [288, 296, 321, 313, 0] { for named in [&[96, fault][..], &[192, fault], &[fault, 96], &[48, 304, fault]] {
+            top(o, named);
+            for room in [0, 8] { o.walk(1, 0, base, BUDGET, room); }
+        } }
+        // each by itself, as the top list
+        top(o, &[]);
+        for (at, _) in leaves { for room in 0..5 { o.walk(1, at, base, 1, room); } }
+    }
 }
 
 // ---- exhaustive parts
@@ -849,6 +891,7 @@ fn stored(o: &mut Out<impl Write>, seed: u64, files: &[String], rust: bool) {
     leaves(o, &mut Rng(seed), 20, SMALL.0);
     data_edges(o, false);
     datas(o, &mut Rng(seed), 40);
+    dropping(o, &mut Rng(seed), 20, SMALL.0);
 }
 
 // ---- cells, and numbers written into a buffer: boundaries, and `random` others
@@ -916,6 +959,13 @@ fn leaves(o: &mut Out<impl Write>, r: &mut Rng, random: u64, most: usize) {
         let (p, end) = (p as u64, end as u64);
         for at in [p - 1, p + 1, end - 8, end - 7, end, end + 1, u32::MAX as u64, (1 << 32) + p, (1 << 32) - 1 + end, u64::MAX - 7, u64::MAX] { o.leaf(at, base, 2); }
     } } }
+    // all entries dropped, and all but one
+    for base in [1u32, 16, 1 << 31, u32::MAX] { for kind in [b"li", b"lf", b"lh"] { for last in [u32::MAX, u32::MAX - base] {
+        let mut m = vec![0; p + 8 + 8 * 3];
+        leaf_list(&mut m, p, kind, &[0u32.wrapping_sub(base), u32::MAX, last], base);
+        o.image(&m);
+        for room in 0..3 { o.leaf(p as u64, base, room); }
+    } } }
     for _ in 0..random {
         let base = r.pick(&[0usize, 0, 4, 16, 31, 32, most / 4]);
         let (m, places) = lists(r, base, most);
@@ -926,6 +976,27 @@ fn leaves(o: &mut Out<impl Write>, r: &mut Rng, random: u64, most: usize) {
             for (base, room) in [(base as u32, ENOUGH), (base as u32, room), (other, ENOUGH)] { o.leaf(p as u64, base, room); }
             let at = p as u64 + r.below(9);
             o.leaf(at, base as u32, ENOUGH);
+        }
+    }
+}
+
+/// Walks and leaf lists of `random` images with lists, of at most so many bytes, in which half of the entries lie close to the drop.
+fn dropping(o: &mut Out<impl Write>, r: &mut Rng, random: u64, most: usize) {
+    for _ in 0..random {
+        let base = r.pick(&[2usize, 4, 16, 31, 32, most / 4]);
+        let (mut m, places) = lists(r, base, most);
+        for &p in &places {
+            if p + 8 > m.len() || &m[p + 4..p + 6] == b"ri" { continue; }
+            let each = if &m[p + 4..p + 6] == b"li" { 4 } else { 8 };
+            for at in (0..get16(&m, p + 6) as usize).map(|i| p + 8 + each * i) {
+                if at + 4 <= m.len() && r.chance(2) { let x = u32::MAX - base as u32 - 1 + r.below(4) as u32; put32(&mut m, at, x); }
+            }
+        }
+        o.image(&m);
+        for p in places {
+            let (budget, room) = (r.below(14) as u32, r.below(12) as u32);
+            for (budget, room) in [(BUDGET, ENOUGH), (BUDGET, room), (budget, ENOUGH)] { o.walk(1, (p - base) as u32, base as u32, budget, room); }
+            for room in [ENOUGH, room] { o.leaf(p as u64, base as u32, room); }
         }
     }
 }
@@ -1434,7 +1505,7 @@ fn main() {
             if args[2] != "-" { o.marked = Some(std::fs::read(&args[2]).expect("a list of marks")); }
             stored(&mut o, seed, &args[3..], true)
         }
-        (_, Some(seed), Some(n)) => { rounds(&mut o, &mut Rng(seed), n, USUAL); cells(&mut o, &mut Rng(seed), 10 * n); puts(&mut o, &mut Rng(seed), 10 * n); leaves(&mut o, &mut Rng(seed), n, USUAL.0); datas(&mut o, &mut Rng(seed), 4 * n) }
+        (_, Some(seed), Some(n)) => { rounds(&mut o, &mut Rng(seed), n, USUAL); cells(&mut o, &mut Rng(seed), 10 * n); puts(&mut o, &mut Rng(seed), 10 * n); leaves(&mut o, &mut Rng(seed), n, USUAL.0); datas(&mut o, &mut Rng(seed), 4 * n); dropping(&mut o, &mut Rng(seed), n, USUAL.0) }
         _ => { eprintln!("usage: cases fixed | hives SEED FILE.. | stored SEED FILE.. | stored-rust SEED MARKS FILE.. | SEED ROUNDS"); std::process::exit(2) }
     }
     o.to.flush().unwrap();

@@ -1,5 +1,5 @@
 #!/usr/bin/env python3
-"""Makes the hives of crates/hive_listing and crates/listing_cases, and what document 01 says that the listing prints of each.
+"""Makes the hives of crates/hive_listing and crates/listing_cases, and what documents 01 and 02 say that the listing prints of each.
 
     compare/listing.py          (from the project's root)
 
@@ -33,9 +33,10 @@ def listing(image):
             raise paper.Refused(paper.OUTSIDE)
         at = root + BASE
         paper.key_record(image, at)
-        # "`keys`: kept, lists, entries; then one offset a line."
-        kept, lists, entries = paper.walk(image, u(at + 24), u(at + 32), BASE, BUDGET, [0] * ROOM)
-        lines.append("keys %d %d %d" % (len(kept), lists, entries))
+        # "`keys`: kept, lists, entries; then one offset a line."; document 02, order 2: "the program's `keys` line" gives "the number
+        # dropped as a further number", "The example's line becomes `keys 2 1 2 0`"
+        kept, lists, entries, dropped = paper.walk(image, u(at + 24), u(at + 32), BASE, BUDGET, [0] * ROOM)
+        lines.append("keys %d %d %d %d" % (len(kept), lists, entries, dropped))
         lines += [str(x) for x in kept]
     except paper.Refused as r:
         lines.append("refused %d" % r.number)
@@ -145,12 +146,12 @@ def hives():
     yield "entry_kept_last", e().word(li + 8, 0xFFFFEFFF)
     yield "names_itself", e().text(li + 4, b"ri").half(li + 6, 1).word(li + 8, 120)
     yield "ri_of_nothing", e().text(li + 4, b"ri").half(li + 6, 0)
-    # an `ri` of n entries names an `li` list of one: 1 + n lists
+    # an `ri` of n entries names an `li` list of two, of which one is dropped: 1 + n lists
     for label, n in ("lists_1024", 1023), ("lists_1025", 1024):
         h = wide(b"ri", n, 112 + (8 + 4 * n + 7) // 8 * 8 + 16)
         leaf = BASE + 120 + (8 + 4 * n + 7) // 8 * 8
         left = len(h) - leaf - 16
-        h.word(leaf, -16).text(leaf + 4, b"li").half(leaf + 6, 1).word(leaf + 8, 32)
+        h.word(leaf, -16).text(leaf + 4, b"li").half(leaf + 6, 2).word(leaf + 8, 32).word(leaf + 12, 0xFFFFF000)
         for i in range(n):
             h.word(li + 8 + 4 * i, leaf - BASE)
         yield label, h.word(leaf + 16, left)

@@ -162,6 +162,7 @@ fn walk_refused(refusal: WalkRefusal) {
     lines::word(refusal.lists);
     lines::word(refusal.places);
     lines::word(refusal.entries);
+    lines::word(refusal.dropped);
 }
 
 fn walk_line(answer: WalkAnswer, out: &[u32]) {
@@ -171,6 +172,7 @@ fn walk_line(answer: WalkAnswer, out: &[u32]) {
             lines::word(counts.kept);
             lines::word(counts.lists);
             lines::word(counts.entries);
+            lines::word(counts.dropped);
             places::written(out, counts.kept);
         }
         WalkAnswer::Refused(refusal) => {
@@ -203,6 +205,7 @@ fn leaf_line(answer: LeafAnswer, out: &[u32]) {
             lines::text(b" ok");
             lines::word(read.kept);
             lines::word(read.entries);
+            lines::word(read.dropped);
             places::written(out, read.kept);
         }
         LeafAnswer::Refused(refusal) => {
@@ -227,6 +230,7 @@ fn counts_line(answer: WalkAnswer) {
             lines::word(counts.kept);
             lines::word(counts.lists);
             lines::word(counts.entries);
+            lines::word(counts.dropped);
         }
         WalkAnswer::Refused(refusal) => walk_refused(refusal),
     }

@@ -1,6 +1,6 @@
 #!/usr/bin/env python3
-"""compare/stored.py SEED HIVE..: what the stored cases are, for compare/STORED.md. Exit 1 where a refusal of a function is not among
-them."""
+"""compare/stored.py SEED HIVE..: what the stored cases are, for compare/STORED.md. Exit 1 where a refusal of a function, or a success or
+a refusal by 9 with entries dropped, is not among them."""
 import collections
 import os
 import sys
@@ -14,6 +14,8 @@ REFUSALS = {1: [1], 2: [1, 4], 4: [2, 6, 7, 8, 9], 5: [2, 4, 7, 8, 9, 13, 14, 15
             8: [1, 2, 3, 4, 5, 6, 7, 8, 16], 9: [5], 10: [8, 10, 11], 11: [2, 4, 8], 16: [2, 4, 8, 9],
             17: [2, 4, 7, 8, 13, 14, 15], 18: [2, 8], 20: [1, 2, 3, 4, 7, 8, 13, 15],
             21: [2, 4, 8, 9, 17], 22: [1, 2, 3, 4, 5, 8, 9, 17]}
+# where an `ok` line of each function that drops entries tells how many; where a refusal by 9 does, and which of them have a buffer
+DROPPED, DROPPED_BY_9, WITH_ROOM = {5: 5, 14: 5, 16: 4, 17: 5, 20: 5}, 7, (5, 14, 16)
 
 
 def counted(path):
@@ -24,6 +26,17 @@ def counted(path):
     return counts
 
 
+def dropping(path):
+    """Of each function, how many lines tell of entries dropped: successes, and refusals by 9."""
+    counts = {tag: collections.Counter() for tag in DROPPED}
+    for line in open(path):
+        words = line.split()
+        tag, answer = int(words[0]), " ".join(words[1:2 if words[1] == "ok" else 3])
+        if tag in DROPPED and answer in ("ok", "refused 9"):
+            counts[tag][answer] += words[DROPPED[tag] if answer == "ok" else DROPPED_BY_9] != "0"
+    return counts
+
+
 def size(crate):
     return sum(os.path.getsize(f"crates/{crate}/{f}") for f in ("stdin", "stdout"))
 
@@ -31,6 +44,8 @@ def size(crate):
 seed, hives = sys.argv[1], [os.path.basename(h) for h in sys.argv[2:]]
 paper, rust = counted("crates/replay_paper/stdout"), counted("crates/replay_rust/stdout")
 missing = [(NAMES[t], n) for t, ns in REFUSALS.items() for n in ns if not paper[t][f"refused {n}"]]
+drops = dropping("crates/replay_paper/stdout")
+missing += [(NAMES[t], f"{a}, dropped") for t, c in drops.items() for a in ("ok", "refused 9")[:2 if t in WITH_ROOM else 1] if not c[a]]
 total = lambda counts: sum(sum(c.values()) for c in counts.values())
 print(f"""# The stored cases
 
@@ -49,7 +64,10 @@ for tag in sorted(paper):
     c = paper[tag]
     numbers = sorted((int(k.split()[1]), n) for k, n in c.items() if k.startswith("refused"))
     print(f"| {NAMES[tag]} | {sum(c.values())} | {c['ok']} | {', '.join(f'{k}: {n}' for k, n in numbers)} |")
+told = [f"{NAMES[t]} {c['ok']}" + (f" and {c['refused 9']}" if c["refused 9"] else "") for t, c in drops.items()]
 print(f"""
+Entries are dropped in so many successes, and refusals by 9: {", ".join(told)}.
+
 ## crates/replay_rust: {total(rust):,} cases, {size("replay_rust") // 1000} KB, the Rust's own answers
 
 Only cases that 01 compares (and, beyond 01, value records and single lists), and of these only such whose times, texts and flags the

@@ -417,9 +417,9 @@ fn put_number(case: Case, out: &mut [u8]) -> bool {
     let at = case.b as usize;
     let width = case.a;
     match width {
-        2 => words::put_u16(out, at, (case.c % 65536) as u16),
-        4 => words::put_u32(out, at, case.c),
-        _ => words::put_u64(out, at, case.c as u64 + 4294967296 * (case.d as u64)),
+        2 => writing::put_u16(out, at, (case.c % 65536) as u16),
+        4 => writing::put_u32(out, at, case.c),
+        _ => writing::put_u64(out, at, case.c as u64 + 4294967296 * (case.d as u64)),
     }
 }
 

@@ -6,11 +6,11 @@ use lib.ListN.{length}
 use Rattle.words.specs.Paper.{Paper, success, refused, told}
 use Rattle.words.specs.Refusals.{NO-ROOM}
 use Rattle.words.specs.Buffers.{needing, inRoom}
-use Rattle.words.specs.Writing.{withBytes}
+use Rattle.writing.specs.Writing.{withBytes}
 use Rattle.words.specs.declared.Refusal.{Refusal}
 use Rattle.words.proofs.Papers.{on-success, on-refused}
 use Rattle.words.proofs.Buffers.{room-full, room-fits, room-refused, answered-refused, answered-success}
-use Rattle.words.proofs.Writing.{with-front}
+use Rattle.writing.proofs.Writing.{with-front}
 use Rattle.value_data.specs.Data.{Source, sizeOf}
 use Rattle.value_data.specs.Answers.{bytesFrom, dataOf, dataBytes, dataIn, DataAnswered}
 use Rattle.value_data.specs.declared.DataAnswer.the-variants.{Copied, Refused}

@@ -6,8 +6,8 @@ use native.Mathlib.Numerals.{add-one}
 use native.Mathlib.Omega.{arith}
 use lib.ListN.{length, getD, drop, set, length-append, length-take, length-set}
 use lib.Seq.{paste, paste-zero, paste-suc}
-use Rattle.words.specs.Writing.{withBytes}
-use Rattle.words.proofs.Writing.{with-length, with-paste, with-more, with-none}
+use Rattle.writing.specs.Writing.{withBytes}
+use Rattle.writing.proofs.Writing.{with-length, with-paste, with-more, with-none}
 use Rattle.value_data.specs.Pieces.{Piece, piece, bytesIn, joined, SEGMENT, segments}
 use Rattle.value_data.proofs.Pieces.{rest, joined-on, joined-end}
 

@@ -12,14 +12,14 @@ use lib.ListN.{length, take, drop}
 use lib.Seq.{drop-drop, getD-drop, take-take}
 use borrow.Author.Tests.{lt-ltb, le-leb, lt-leb, eqb-true}
 use Rattle.words.specs.Words.{word16, word32}
-use Rattle.words.specs.Writing.{bytesOf}
+use Rattle.writing.specs.Writing.{bytesOf}
 use Rattle.words.specs.Paper.{Paper, success, refused, by}
 use Rattle.words.specs.Refusals.{BAD-SIGN, CUT-SHORT, BAD-DATA}
 use Rattle.cell.specs.Cells.{Cell, held, tooSmall, cellAt}
 use Rattle.cell_big_data.specs.Big.{isBigDataBlock}
 use Rattle.words.proofs.Little.{Bytes, little-lt}
 use Rattle.words.proofs.Papers.{success-refused, same-success, checked-good, checked-bad}
-use Rattle.words.proofs.Writing.{bytes-first, bytes-there}
+use Rattle.writing.proofs.Writing.{bytes-first, bytes-there}
 use Rattle.cell_key_node.proofs.Checks.{exactly}
 use Rattle.cell_key_value.specs.Value.{valueFault, valueOf, valueAt}
 use Rattle.cell_key_value.specs.declared.KeyValue.{KeyValue}

@@ -12,7 +12,7 @@ use lib.ListN.{length, drop, length-append, length-take, length-drop}
 use Rattle.words.specs.Paper.{Paper, success, refused, by, andThen}
 use Rattle.words.specs.Refusals.{BAD-DATA}
 use Rattle.words.proofs.Papers.{success-refused, same-success, then-next, on-success-of}
-use Rattle.words.proofs.Writing.{bytes-length}
+use Rattle.writing.proofs.Writing.{bytes-length}
 use Rattle.cell.specs.Cells.{Cell, held, tooSmall, magnitudeAt, cellAt}
 use Rattle.cell.specs.Exactly.{Reads}
 use Rattle.cell.specs.declared.CellSize.{CellSize}

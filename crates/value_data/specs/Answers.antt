@@ -4,7 +4,7 @@ use mathlib.Core.List.{List, [], _∷_}
 use lib.ListN.{length}
 use Rattle.words.specs.Paper.{Paper, success, refused, told, toldOfRoom, onSuccess}
 use Rattle.words.specs.Buffers.{needing, inRoom, Answered}
-use Rattle.words.specs.Writing.{bytesOf}
+use Rattle.writing.specs.Writing.{bytesOf}
 use Rattle.value_data.specs.Pieces.{piece, joined}
 use Rattle.value_data.specs.Data.{isResident, sizeOf, Source, field, pieces, segmentsAt, sourceOf}
 use Rattle.value_data.specs.declared.DataPlace.{DataPlace}

@@ -5,7 +5,7 @@ ghost use mathlib.Core.Path.{_≡_};
 ghost use lib.ListN.{length};
 ghost use Rattle.words.specs.Refusals.{BAD-DATA};
 ghost use Rattle.words.specs.Paper.{verdictPaper};
-ghost use Rattle.words.specs.Writing.{withBytes};
+ghost use Rattle.writing.specs.Writing.{withBytes};
 ghost use Rattle.cell_key_node.specs.ValueList.{upTo, entryOf};
 ghost use Rattle.value_data.specs.Pieces.{piece, bytesIn, joined, holds, judged, SEGMENT, segments};
 ghost use Rattle.value_data.specs.Data.{segmentsNeeded, bigHead, bigAt, fromList, inSegments, isBig, sourceOf};
@@ -276,7 +276,7 @@ fn copy_data(image: &[u8], base: u32, size: u32, offset: u32, place: DataPlace, 
 {
     match place {
         DataPlace::Field => {
-            words::put_bytes(out, 0, size as usize, offset as u64);
+            writing::put_bytes(out, 0, size as usize, offset as u64);
         }
         DataPlace::Cell(position) => {
             let bytes = cell_bytes(image, position, size);

@@ -5,4 +5,3 @@ pub mod Parts
 pub mod Papers
 pub mod Plain
 pub mod Buffers
-pub mod Writing

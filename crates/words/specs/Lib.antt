@@ -3,4 +3,3 @@ pub mod Refusals
 pub mod Paper
 pub mod Parts
 pub mod Buffers
-pub mod Writing

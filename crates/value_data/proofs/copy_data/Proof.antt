@@ -1,8 +1,8 @@
 use native.Mathlib.Nat.{zero-add}
 use mathlib.Core.Path.{sym, ap, _∙_}
 use mathlib.Core.List.{List}
-use Rattle.words.specs.Writing.{withBytes}
-use Rattle.words.proofs.Writing.{with-none, put-true, put-written}
+use Rattle.writing.specs.Writing.{withBytes}
+use Rattle.writing.proofs.Writing.{with-none, put-true, put-written}
 use Rattle.value_data.specs.Pieces.{Piece, joined}
 use Rattle.value_data.specs.Answers.{bytesFrom, sourceAt}
 use Rattle.value_data.specs.declared.DataPlace.{DataPlace}

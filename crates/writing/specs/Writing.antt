@@ -6,7 +6,7 @@ use mathlib.Core.List.{List, [], _∷_, _++_}
 use lib.Dec.{leb}
 use lib.ListN.{length, take, drop}
 
--- `n` bytes of a number, the lowest first: what `little n` reads (Words.antt)
+-- `n` bytes of a number, the lowest first: what `little n` of the crate `words` reads
 unfoldable pub bytesOf : ℕ → ℕ → List ℕ
 bytesOf zero x = []
 bytesOf (suc n) x = x % 256 ∷ bytesOf n (x / 256)

@@ -13,9 +13,9 @@ use lib.Dec.{leb}
 use lib.ListN.{length, take, drop, set, length-append, length-take, length-set, take-append-drop, List·getD-append}
 use lib.Seq.{take-length, paste, sets, sets-eq, length-sets, drop-cons, take-at, drop-at, take-append-seam, drop-append-add, getD-append-add, getD-take, getD-drop}
 use borrow.Author.Tests.{le-leb, lt-leb, leb-true, leb-false}
 use Rattle.words.specs.Words.{byteAt, little}
-use Rattle.words.specs.Writing.{bytesOf, withBytes, PutAt}
+use Rattle.writing.specs.Writing.{bytesOf, withBytes, PutAt}
 use Rattle.words.proofs.Little.{Bytes, little-split, little-drop, little-same}
 
 -- ---- the bytes of a number
 

@@ -2,9 +2,9 @@ use borrow.Author.Tests.{not-true, not-false}
 use mathlib.Core.Path.{sym, _∙_}
 use borrow.Author.Needs.{needs}
 use Prim.Native.Nat.{_-_}
-use Rattle.words.proofs.Writing.{Putting, putting-start, putting-step, putting-done, put-nothing}
-use Rattle.words.proofs.put_bytes.Statement.{statement}
-use Rattle.words.proofs.put_bytes.Tie as tie
+use Rattle.writing.proofs.Writing.{Putting, putting-start, putting-step, putting-done, put-nothing}
+use Rattle.writing.proofs.put_bytes.Statement.{statement}
+use Rattle.writing.proofs.put_bytes.Tie as tie
 
 abbrev Inv-loop : tie.InvT-loop
 Inv-loop out₀ at n x room rest₀ i₀ out rest i = Putting out₀ at n x out rest i

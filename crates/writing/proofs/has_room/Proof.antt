@@ -2,9 +2,9 @@ use mathlib.Core.Path.{sym}
 use native.Mathlib.Omega.{arith}
 use Prim.Native.Nat.{_+_}
 use borrow.Author.Tests.{lt-leb}
-use Rattle.words.proofs.Writing.{room-test}
-use Rattle.words.proofs.has_room.Statement.{statement}
-use Rattle.words.proofs.has_room.Tie as tie
+use Rattle.writing.proofs.Writing.{room-test}
+use Rattle.writing.proofs.has_room.Statement.{statement}
+use Rattle.writing.proofs.has_room.Tie as tie
 
 returns : tie.Need-returns
 returns c = let a = c .before .args in sym (lt-leb (a .at + a .n) (a .room) (omega arith))

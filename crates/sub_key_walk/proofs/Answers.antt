@@ -67,7 +67,7 @@ module _ (s : List ℕ) (base count list budget : ℕ) where
   unfolding measured
   measured-walk d = rw (le-ltb BUDGET-LIMIT budget (d .small), le-ltb COUNT-LIMIT count (d .few), ne-eqb count 0 (d .some))
 
--- a walk that is measured counts all lists that are reached
+-- the lists reached from a key record: those of the walk, and none where the count is 0
 pub reached-walk : (s : List ℕ) (base count list : ℕ) → (count ≡ 0 → ⊥) → reachedBy s base count list ≡ walkFrom s base list
 unfolding reachedBy
 reached-walk s base count list h = rw (ne-eqb count 0 h)
@@ -76,6 +76,7 @@ reached-none : (s : List ℕ) (base count list : ℕ) → count ≡ 0 → reache
 unfolding reachedBy
 reached-none s base count list h = rw (eq-eqb count 0 h)
 
+-- a walk that is measured counts all of them
 pub measured-counts : (s : List ℕ) (base count list budget : ℕ) (t : Counts) → measured s base count list budget ≡ success t → t ≡ countsOf (reachedBy s base count list)
 unfolding measured reachedBy keptOf listsOf entriesOf droppedOf
 measured-counts s base count list budget t q = go (ltb BUDGET-LIMIT budget) (ltb COUNT-LIMIT count) (eqb count 0) refl refl refl
@@ -89,7 +90,10 @@ measured-counts s base count list budget t q = go (ltb BUDGET-LIMIT budget) (ltb
 -- where it keeps something, it is no walk from a count of 0
 kept-some : (s : List ℕ) (base count list : ℕ) → 0 < length (keptBy s base count list) → reachedBy s base count list ≡ walkFrom s base list
 unfolding keptOf
-kept-some s base count list h = reached-walk s base count list (λ z. let e = ap (λ (es : List Event). length (keptOf es)) (reached-none s base count list z) in let w : ⊥ = omega arith in w)
+kept-some s base count list h = reached-walk s base count list some
+  where
+    some : count ≡ 0 → ⊥
+    some z = let e = ap (λ (es : List Event). length (keptOf es)) (reached-none s base count list z) in omega arith
 
 -- ---- and with it
 
@@ -118,11 +122,11 @@ module _ (s : List ℕ) (base count list budget : ℕ) (old : List ℕ) (w : Wal
           answered-success refl fits (ap (λ (ks : List ℕ). ks ++ drop (length ks) old) (sym (no-row (keptBy s base count list) (omega arith))))
 
       module _ (some : 0 < t .kept) where
-        walked : countsOf (reachedBy s base count list) ≡ countsOf (walkFrom s base list)
-        walked = let e = kept-number in ap countsOf (kept-some s base count list (omega arith))
+        walked : reachedBy s base count list ≡ walkFrom s base list
+        walked = let e = kept-number in kept-some s base count list (omega arith)
 
         counted : t ≡ countsOf (walkFrom s base list)
-        counted = measured-counts s base count list budget t (sym k ∙ ap walkPaper q) ∙ walked
+        counted = measured-counts s base count list budget t (sym k ∙ ap walkPaper q) ∙ ap countsOf walked
 
         pub walk-roomy : {whole : Bool} → whole ≡ eqb (t .dropped) 0 → Roomy (walkFrom s base list) whole old 0
         walk-roomy z =
@@ -132,10 +136,9 @@ module _ (s : List ℕ) (base count list budget : ℕ) (old : List ℕ) (w : Wal
         pub walk-filled : {r : ℕ} {new : List ℕ} → Filled (keptOf (walkFrom s base list)) old 0 r new → WalkAnswered s base count list budget old (Read t) new
         walk-filled f =
             let n = ap (λ (c : Counts). c .kept) counted in
-            let e = kept-number in
             answered-success refl fits
             (front-filled (keptOf (walkFrom s base list)) old f (omega arith)
-            ∙ ap (λ (es : List Event). keptOf es ++ drop (length (keptOf es)) old) (sym (kept-some s base count list (omega arith))))
+            ∙ ap (λ (es : List Event). keptOf es ++ drop (length (keptOf es)) old) (sym walked))
 
 -- ---- one leaf list
 

@@ -88,12 +88,16 @@ unfolding after
 plainly-after (success st) f p q = q st
 plainly-after (refused u) f p q = plainly-refused (p u refl)
 
+plainly-budget : (budget : ℕ) (st : Counts) (p : ℕ) {a : Paper Counts} → Plainly a → Plainly (inBudget budget st p a)
+unfolding inBudget
+plainly-budget budget st p q = plainly-cond (eqb (st .lists) budget) (plainly-fault OUT-OF-STEPS p (st .lists) (omega arith)) q
+
 one-plain : (budget : ℕ) (st : Counts) (e : Event) → Sound e → Plainly (one budget st e)
-unfolding one inBudget
+unfolding one
 one-plain budget st (deep p) g = plainly-fault TOO-DEEP p (st .lists) (omega arith)
-one-plain budget st (bad n p) g = plainly-cond (eqb (st .lists) budget) (plainly-fault OUT-OF-STEPS p (st .lists) (omega arith)) (plainly-fault n p (st .lists) g)
-one-plain budget st (index p n) g = plainly-cond (eqb (st .lists) budget) (plainly-fault OUT-OF-STEPS p (st .lists) (omega arith)) (plainly-success _)
-one-plain budget st (leaf p l) g = plainly-cond (eqb (st .lists) budget) (plainly-fault OUT-OF-STEPS p (st .lists) (omega arith)) (plainly-success _)
+one-plain budget st (bad n p) g = plainly-budget budget st p (plainly-fault n p (st .lists) g)
+one-plain budget st (index p n) g = plainly-budget budget st p (plainly-success _)
+one-plain budget st (leaf p l) g = plainly-budget budget st p (plainly-success _)
 
 judge-plain : (budget : ℕ) (st : Counts) (es : List Event) → All Sound es → Plainly (judge budget st es)
 unfolding All judge

@@ -85,7 +85,3 @@ module _ (s : List ℕ) (base size : ℕ) where
       let v : ℕ = word32 s pos + base in
       let r : List ℕ = leafKept s base size k (pos + size) in
       omega (arith, ap length (keep-append v r), length-append (keep v []) r, keep-or-drop v, leaf-all k (pos + size))
-
-  -- at most as many are kept as there are
-  pub leaf-few : (k pos : ℕ) → length (leafKept s base size k pos) ≤ k
-  leaf-few k pos = omega (arith, leaf-all k pos)

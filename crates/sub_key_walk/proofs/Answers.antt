@@ -20,7 +20,7 @@ use Rattle.sub_key_list.specs.Leaves.{leafOf, leafKept, onlyLeaf}
 use Rattle.sub_key_list.specs.declared.LeafList.{LeafList}
 use Rattle.sub_key_list.specs.declared.IndexList.{IndexList}
 use Rattle.sub_key_list.specs.declared.SubKeyList.the-variants as found
-use Rattle.sub_key_walk.specs.Trace.{Event, walkFrom, keptOf, listsOf, entriesOf, droppedOf}
+use Rattle.sub_key_walk.specs.Trace.{Event, walkFrom, keptOf, total}
 use Rattle.sub_key_walk.specs.Judge.{fault, judge}
 use Rattle.sub_key_walk.specs.Answers.{BUDGET-LIMIT, COUNT-LIMIT, none, measured, fullOf, answerOf, reachedBy, keptBy, walkTold, walkPaper, WalkAnswered}
 use Rattle.sub_key_walk.specs.Leaf.{readOf, fullLeaf, leafAnswerOf, keptFrom, LeafAnswered}
@@ -78,7 +78,7 @@ reached-none s base count list h = rw (eq-eqb count 0 h)
 
 -- a walk that is measured counts all of them
 pub measured-counts : (s : List ℕ) (base count list budget : ℕ) (t : Counts) → measured s base count list budget ≡ success t → t ≡ countsOf (reachedBy s base count list)
-unfolding measured reachedBy keptOf listsOf entriesOf droppedOf
+unfolding measured reachedBy keptOf total
 measured-counts s base count list budget t q = go (ltb BUDGET-LIMIT budget) (ltb COUNT-LIMIT count) (eqb count 0) refl refl refl
   where
     go : (a b c : Bool) → ltb BUDGET-LIMIT budget ≡ a → ltb COUNT-LIMIT count ≡ b → eqb count 0 ≡ c → t ≡ countsOf (reachedBy s base count list)

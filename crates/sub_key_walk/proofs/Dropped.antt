@@ -19,7 +19,7 @@ use Rattle.sub_key_list.specs.Lists as lists
 use Rattle.sub_key_list.specs.Leaves.{Leaf, leafDropped, onlyLeaf, leafAt}
 use Rattle.sub_key_list.proofs.Cases.{list-plain}
 use Rattle.sub_key_list.proofs.Leaves.{leaf-all}
-use Rattle.sub_key_walk.specs.Trace.{Event, deep, bad, index, leaf, trace, ordinary, walkFrom, keptIn, keptOf, entriesIn, entriesOf, droppedIn, droppedOf}
+use Rattle.sub_key_walk.specs.Trace.{Event, deep, bad, index, leaf, trace, ordinary, walkFrom, keptIn, keptOf, entriesIn, entriesOf, droppedIn, droppedOf, total}
 use Rattle.sub_key_walk.specs.Judge.{fault, inBudget, one, after, judge}
 use Rattle.sub_key_walk.specs.Answers.{BUDGET-LIMIT, COUNT-LIMIT, none, measured, fullOf, reachedBy, walkPaper, WalkAnswered}
 use Rattle.sub_key_walk.specs.Leaf.{readOf, fullLeaf, LeafAnswered}
@@ -48,7 +48,7 @@ unfolding keptIn entriesIn droppedIn
 deep-drops p = refl
 
 all-sum : (es : List Event) → All KeptOrDropped es → entriesOf es ≡ length (keptOf es) + droppedOf es
-unfolding All keptOf entriesOf droppedOf
+unfolding All keptOf total
 all-sum [] a = refl
 all-sum (e ∷ es) a =
     let h : length (keptIn e) + droppedIn e ≡ entriesIn e = a .0 in
@@ -60,7 +60,7 @@ trace-sum s base levels o = all-sum _ (trace-all KeptOrDropped s base deep-drops
 
 -- and of those that are reached from a key record
 reached-sum : (s : List ℕ) (base count list : ℕ) → let es = reachedBy s base count list in entriesOf es ≡ length (keptOf es) + droppedOf es
-unfolding reachedBy keptOf entriesOf droppedOf
+unfolding reachedBy keptOf total
 reached-sum s base count list = go (eqb count 0)
   where
     go : (b : Bool) → let es = cond b [] (walkFrom s base list) in entriesOf es ≡ length (keptOf es) + droppedOf es

@@ -16,9 +16,9 @@ use Rattle.sub_key_list.specs.declared.IndexList.{IndexList}
 use Rattle.sub_key_list.specs.declared.SubKeyList.the-variants as found
 use Rattle.words.specs.declared.Refusal.{Refusal}
 use Rattle.sub_key_list.proofs.Leaves.{sets-append}
-use Rattle.sub_key_walk.specs.Trace.{Event, each, below, trace, keptIn, keptOf, droppedIn, droppedOf}
+use Rattle.sub_key_walk.specs.Trace.{Event, each, below, trace, keptIn, keptOf, droppedIn, droppedOf, total}
 use Rattle.sub_key_walk.specs.Walk.{Whole, Filled, Roomy}
-use Rattle.sub_key_walk.proofs.Walks.{trace-deep, trace-in, each-next, each-none, kept-append, dropped-append}
+use Rattle.sub_key_walk.proofs.Walks.{trace-deep, trace-in, each-next, each-none, kept-append, total-append}
 
 -- ---- room for a row of lists is room for its front, and then for the rest
 
@@ -29,13 +29,13 @@ module _ (xs ys : List Event) {whole : Bool} {old : List ℕ} {place : ℕ} (v :
   roomy-front : Roomy xs whole old place
   roomy-front =
       let r = v .room in
-      record { room = omega (arith, lengths); all = λ e. let a = v .all e in omega (arith, dropped-append xs ys) }
+      record { room = omega (arith, lengths); all = λ e. let a = v .all e in omega (arith, total-append droppedIn xs ys) }
 
   roomy-rest : {r : ℕ} {new : List ℕ} → Filled (keptOf xs) old place r new → length new ≡ length old → Roomy ys whole new r
   roomy-rest f l =
       let r = v .room in
       let n = f .next in
-      record { room = omega (arith, lengths); all = λ e. let a = v .all e in omega (arith, dropped-append xs ys) }
+      record { room = omega (arith, lengths); all = λ e. let a = v .all e in omega (arith, total-append droppedIn xs ys) }
 
 -- ---- the loop over the entries of an `ri` list
 
@@ -116,7 +116,7 @@ module _ (hd : ℕ → ℕ → Paper Listed) (levels : ℕ) (s : List ℕ) (base
     kept-leaf = rw (trace-in hd levels s base offset h, e) (append-nil _)
 
     dropped-leaf : droppedOf (trace hd levels s base offset) ≡ leafDropped s base (l .«entry_size») (l .count) (offset + base + 8)
-    unfolding below droppedOf droppedIn
+    unfolding below total droppedIn
     dropped-leaf = rw (trace-in hd levels s base offset h, e) (omega arith)
 
     module _ {whole : Bool} {old : List ℕ} {place : ℕ} (v : Roomy (trace hd levels s base offset) whole old place) where
@@ -138,7 +138,7 @@ module _ (hd : ℕ → ℕ → Paper Listed) (levels : ℕ) (s : List ℕ) (base
     kept-index = rw (trace-in hd levels s base offset h, e)
 
     dropped-index : droppedOf (trace hd levels s base offset) ≡ droppedOf named
-    unfolding below droppedOf droppedIn
+    unfolding below total droppedIn
     dropped-index = rw (trace-in hd levels s base offset h, e) (omega arith)
 
     pub index-room : {whole : Bool} {old : List ℕ} {place : ℕ} → Roomy (trace hd levels s base offset) whole old place → Roomy named whole old place

@@ -10,7 +10,7 @@ use lib.Dec.{eqb}
 use lib.ListN.{length, length-append}
 use Rattle.words.specs.Paper.{Paper, success, refused}
 use Rattle.words.proofs.Papers.{success-refused, same-success}
-use Rattle.sub_key_walk.specs.Trace.{Event, deep, bad, index, leaf, keptIn, keptOf, listsIn, listsOf, entriesOf, droppedOf}
+use Rattle.sub_key_walk.specs.Trace.{Event, deep, bad, index, leaf, keptIn, keptOf, listsIn, listsOf, entriesOf, droppedOf, total}
 use Rattle.sub_key_walk.specs.Judge.{fault, counts, counted, inBudget, one, after, judge}
 use Rattle.sub_key_walk.specs.Answers.{none}
 use Rattle.sub_key_walk.specs.Free.{All, countsOf, front, listsBy}
@@ -34,7 +34,7 @@ good-one (leaf p l) g = refl
 
 -- where all can be read, each of them counts
 pub lists-all : (es : List Event) → All Good es → listsOf es ≡ length es
-unfolding All listsOf
+unfolding All total
 lists-all [] g = refl
 lists-all (e ∷ es) g = omega (arith, good-one e (g .0), lists-all es (g .1))
 
@@ -43,11 +43,11 @@ abbrev pub tally : Counts → List Event → Counts
 tally st es = counts (st .kept + length (keptOf es)) (st .lists + listsOf es) (st .entries + entriesOf es) (st .dropped + droppedOf es)
 
 tally-none : (st : Counts) → st ≡ tally st []
-unfolding keptOf listsOf entriesOf droppedOf
+unfolding keptOf total
 tally-none st = counts-path (omega arith) (omega arith) (omega arith) (omega arith)
 
 tally-next : (st : Counts) (e : Event) (es : List Event) → tally (counted st e) es ≡ tally st (e ∷ es)
-unfolding counted keptOf listsOf entriesOf droppedOf
+unfolding counted keptOf total
 tally-next st e es = counts-path (omega (arith, length-append (keptIn e) (keptOf es))) (omega arith) (omega arith) (omega arith)
 
 -- ---- one list
@@ -83,7 +83,7 @@ counted-lists st e g = omega (arith, good-one e g)
 -- ---- a success exactly when all can be read within the budget
 
 pub judge-all : (budget : ℕ) (st : Counts) (es : List Event) → All Good es → st .lists + listsOf es ≤ budget → judge budget st es ≡ success (tally st es)
-unfolding All judge after listsOf
+unfolding All judge after total
 judge-all budget st [] g h = ap success (tally-none st)
 judge-all budget st (e ∷ es) g h =
     let n = good-one e (g .0) in
@@ -93,7 +93,7 @@ judge-all budget st (e ∷ es) g h =
 
 pub all-judge : (budget : ℕ) (st : Counts) (es : List Event) (t : Counts) → st .lists ≤ budget → judge budget st es ≡ success t
     → All Good es × (st .lists + listsOf es ≤ budget)
-unfolding All judge listsOf
+unfolding All judge total
 all-judge budget st [] t h q = (tt, omega arith)
 all-judge budget st (e ∷ es) t h q =
     let w = after-success (one budget st e) (λ st′. judge budget st′ es) t q in
@@ -152,7 +152,7 @@ bad-lists budget st r p es h (other q) = rw (ne-eqb (st .lists) budget q) (omega
 
 -- those in front of the first that can't be read, and no more than the budget
 pub judge-lists : (budget : ℕ) (st : Counts) (es : List Event) → st .lists ≤ budget → listsBy (judge budget st es) ≡ min budget (st .lists + listsOf (front es))
-unfolding judge one after front listsOf listsIn
+unfolding judge one after front total listsIn
 judge-lists budget st [] h = omega arith
 judge-lists budget st (deep p ∷ es) h = omega arith
 judge-lists budget st (bad r p ∷ es) h = bad-lists budget st r p es h (test (st .lists) budget)

@@ -14,8 +14,9 @@ use Rattle.words.proofs.Papers.{success-refused, same-success}
 use Rattle.sub_key_list.specs.Lists.{LF, LH, LI, RI, entrySize, Listed, ofKind, kindAt, countAt, listAt}
 use Rattle.sub_key_list.specs.Lists as lists
 use Rattle.sub_key_list.specs.Leaves.{Leaf, leafOf}
-use Rattle.sub_key_walk.specs.Trace.{Event, deep, bad, index, leaf, each, below, trace, ordinary, entriesIn, entriesOf}
+use Rattle.sub_key_walk.specs.Trace.{Event, deep, bad, index, leaf, each, below, trace, ordinary, entriesIn, entriesOf, total}
 use Rattle.sub_key_walk.specs.Free.{All, Known, is-lf, is-lh, is-li, is-ri, Readable, Fine, Full}
+use Rattle.sub_key_walk.proofs.Walks.{total-append}
 use Rattle.sub_key_walk.proofs.Judged.{Good}
 
 -- ---- the kinds with a size are the known ones
@@ -211,32 +212,27 @@ module _ (s : List ℕ) (base : ℕ) where
 
 -- ---- at most as many lists to a leaf entry as there are levels
 
-pub entries-append : (xs ys : List Event) → entriesOf (xs ++ ys) ≡ entriesOf xs + entriesOf ys
-unfolding entriesOf
-entries-append [] ys = omega arith
-entries-append (x ∷ xs) ys = omega (arith, entries-append xs ys)
-
 -- a row of lists has so many entries, and at most l lists for each
 pub record Dense (l least : ℕ) (es : List Event) : Type 0 where
   pub some : least ≤ entriesOf es
   pub many : length es ≤ l * entriesOf es
 
 leaf-dense : (l p : ℕ) (x : Leaf) → 0 < x .entries → Dense (suc l) 1 (leaf p x ∷ [])
-unfolding entriesOf entriesIn
+unfolding total entriesIn
 leaf-dense l p x h = record { some = omega arith; many = omega (arith, suc-mul l (x .entries + 0)) }
 
 index-dense : (l p n : ℕ) (es : List Event) → 0 < n → Dense l n es → Dense (suc l) 1 (index p n ∷ es)
-unfolding entriesOf entriesIn
+unfolding total entriesIn
 index-dense l p n es h d = record { some = omega arith; many = omega (arith, suc-mul l (0 + entriesOf es), mul-add l 0 (entriesOf es)) }
 
 append-dense : (l a b : ℕ) (xs ys : List Event) → Dense l a xs → Dense l b ys → Dense l (a + b) (xs ++ ys)
 append-dense l a b xs ys d e =
-    let n = entries-append xs ys in
+    let n = total-append entriesIn xs ys in
     record { some = omega arith; many = rw n (omega (arith, length-append xs ys, mul-add l (entriesOf xs) (entriesOf ys))) }
 
 module _ (l : ℕ) (f : ℕ → List Event) (s : List ℕ) (g : (o : ℕ) → All Good (f o) → All Full (f o) → Dense l 1 (f o)) where
   each-dense : (k pos : ℕ) → All Good (each f s k pos) → All Full (each f s k pos) → Dense l k (each f s k pos)
-  unfolding each entriesOf
+  unfolding each total
   each-dense zero pos a b = record { some = omega arith; many = omega arith }
   each-dense (suc k) pos a b =
       let x = all-append Good (f _) (each f s k (pos + 4)) a in

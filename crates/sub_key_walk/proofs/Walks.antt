@@ -7,11 +7,10 @@ use native.Mathlib.Nat.{sub-zero}
 use native.Mathlib.Omega.{arith}
 use borrow.Author.Tests.{eq-eqb, ne-eqb}
 use lib.Dec.{eqb}
-use lib.ListN.{length, length-append}
 use Rattle.words.specs.Words.{word32}
 use Rattle.words.specs.Refusals.{TOO-DEEP, OUT-OF-STEPS}
 use Rattle.words.specs.Paper.{Told, Paper, success, refused}
-use Rattle.words.proofs.Papers.{success-refused, same-success}
+use Rattle.words.proofs.Papers.{success-refused}
 use Rattle.sub_key_list.specs.Lists.{Listed, listPaper}
 use Rattle.sub_key_list.specs.Lists as lists
 use Rattle.sub_key_list.specs.Leaves.{leafOf}
@@ -21,7 +20,7 @@ use Rattle.sub_key_list.specs.declared.SubKeyList.{SubKeyList}
 use Rattle.sub_key_list.specs.declared.SubKeyList.the-variants as found
 use Rattle.words.specs.declared.Refusal.{Refusal}
 use Rattle.sub_key_list.proofs.Leaves.{leaf-all}
-use Rattle.sub_key_walk.specs.Trace.{Event, deep, bad, index, leaf, each, below, trace, keptIn, keptOf, listsIn, entriesIn, droppedIn, droppedOf}
+use Rattle.sub_key_walk.specs.Trace.{Event, deep, index, leaf, each, below, trace, keptIn, keptOf, listsIn, entriesIn, droppedIn, total}
 use Rattle.sub_key_walk.specs.Judge.{fault, counts, counted, inBudget, one, after, judge}
 use Rattle.sub_key_walk.specs.Answers.{BUDGET-LIMIT, walkPaper}
 use Rattle.sub_key_walk.specs.Leaf.{readOf}
@@ -62,10 +61,10 @@ unfolding keptOf
 kept-append [] ys = refl
 kept-append (e ∷ xs) ys = ap (λ (ks : List ℕ). keptIn e ++ ks) (kept-append xs ys) ∙ sym (append-assoc (keptIn e) (keptOf xs) (keptOf ys))
 
-pub dropped-append : (xs ys : List Event) → droppedOf (xs ++ ys) ≡ droppedOf xs + droppedOf ys
-unfolding droppedOf
-dropped-append [] ys = omega arith
-dropped-append (e ∷ xs) ys = omega (arith, dropped-append xs ys)
+pub total-append : (n : Event → ℕ) (xs ys : List Event) → total n (xs ++ ys) ≡ total n xs + total n ys
+unfolding total
+total-append n [] ys = omega arith
+total-append n (e ∷ xs) ys = omega (arith, total-append n xs ys)
 
 -- ---- judging
 
@@ -102,22 +101,6 @@ pub budget-success : (budget : ℕ) (st : Counts) (p : ℕ) (a : Paper Counts) (
     → (eqb (st .lists) budget ≡ false) × (a ≡ success u)
 unfolding inBudget
 budget-success budget st p a u e = cond-success (eqb (st .lists) budget) (fault OUT-OF-STEPS p (st .lists)) a u e
-
-one-counted : (budget : ℕ) (st : Counts) (e : Event) (u : Counts) → one budget st e ≡ success u → u ≡ counted st e
-unfolding one
-one-counted budget st (deep p) u q = absurd (success-refused (sym q))
-one-counted budget st (bad n p) u q = absurd (success-refused (sym (budget-success budget st p (refused (fault n p (st .lists))) u q .1)))
-one-counted budget st (index p n) u q = sym (same-success (budget-success budget st p (success (counted st (index p n))) u q .1))
-one-counted budget st (leaf p l) u q = sym (same-success (budget-success budget st p (success (counted st (leaf p l))) u q .1))
-
--- the number kept is the number of offsets kept
-pub judge-kept : (budget : ℕ) (st : Counts) (es : List Event) (t : Counts) → judge budget st es ≡ success t → t .kept ≡ st .kept + length (keptOf es)
-unfolding judge keptOf counted
-judge-kept budget st [] t e = omega (arith, ap (λ (v : Counts). v .kept) (same-success e))
-judge-kept budget st (x ∷ es) t e =
-    let w = after-success (one budget st x) (λ st′. judge budget st′ es) t e in
-    let k : w .0 .kept ≡ st .kept + length (keptIn x) = ap (λ (v : Counts). v .kept) (one-counted budget st x (w .0) (w .1 .0)) in
-    omega (arith, judge-kept budget (w .0) es t (w .1 .1), length-append (keptIn x) (keptOf es))
 
 -- ---- a list that is reached: the cases in their order
 

@@ -52,6 +52,11 @@ walkFrom s base list = trace (ordinary s) LEVELS s base list
 -- ---- "The answer gives offsets kept, lists read, and leaf entries, dropped ones included" and, by document 02, order 2, "the number
 -- dropped as a further number": each from the lists reached
 
+-- a number of each list, summed
+unfoldable pub total : (Event → ℕ) → List Event → ℕ
+total n [] = 0
+total n (e ∷ es) = n e + total n es
+
 unfoldable pub keptIn : Event → List ℕ
 keptIn (deep p) = []
 keptIn (bad r p) = []
@@ -69,9 +74,8 @@ listsIn (bad r p) = 0
 listsIn (index p n) = 1
 listsIn (leaf p l) = 1
 
-unfoldable pub listsOf : List Event → ℕ
-listsOf [] = 0
-listsOf (e ∷ es) = listsIn e + listsOf es
+abbrev pub listsOf : List Event → ℕ
+listsOf es = total listsIn es
 
 unfoldable pub entriesIn : Event → ℕ
 entriesIn (deep p) = 0
@@ -79,9 +83,8 @@ entriesIn (bad r p) = 0
 entriesIn (index p n) = 0
 entriesIn (leaf p l) = l .entries
 
-unfoldable pub entriesOf : List Event → ℕ
-entriesOf [] = 0
-entriesOf (e ∷ es) = entriesIn e + entriesOf es
+abbrev pub entriesOf : List Event → ℕ
+entriesOf es = total entriesIn es
 
 unfoldable pub droppedIn : Event → ℕ
 droppedIn (deep p) = 0
@@ -89,6 +92,5 @@ droppedIn (bad r p) = 0
 droppedIn (index p n) = 0
 droppedIn (leaf p l) = l .dropped
 
-unfoldable pub droppedOf : List Event → ℕ
-droppedOf [] = 0
-droppedOf (e ∷ es) = droppedIn e + droppedOf es
+abbrev pub droppedOf : List Event → ℕ
+droppedOf es = total droppedIn es

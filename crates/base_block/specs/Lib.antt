@@ -1,3 +1,4 @@
 pub mod Checksum
 pub mod Block
 pub mod Answers
+pub mod Columns

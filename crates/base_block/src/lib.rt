@@ -1,11 +1,12 @@
 // The base block of a hive, its first 4,096 bytes, and its checksum.
 ghost use mathlib.Core.Path.{_≡_};
-ghost use Prim.Native.Nat.{_≤_};
+ghost use Prim.Native.Nat.{_+_, _≤_};
 ghost use lib.ListN.{length};
 ghost use Rattle.words.specs.Parts.{Part};
 ghost use Rattle.base_block.specs.Checksum.{xorOf, mended, checksumOf};
 ghost use Rattle.base_block.specs.Block.{typeOf, formatOf, fieldsOf, headFault, blockOf, partOf, partAt};
 ghost use Rattle.base_block.specs.Answers.{sumPaper, blockPaper};
+ghost use Rattle.base_block.specs.Columns.{LaidOut, Folded};
 use words::Refusal;
 
 pub enum Checksum {
@@ -13,18 +14,51 @@ pub enum Checksum {
     Refused(Refusal),
 }
 
-// The XOR of the 127 words of bytes 0 to 507, which are there: read by plain indexes, several words at a step.
+// Copies bytes 0 to 507 to a sheet of 128 rows of four. The last row, where the checksum itself stands, is left as it is.
+fn lay_out(s: &[u8], sheet: &mut [u8])
+    requires { ⌜ (508 ≤ length (now s)) × (508 ≤ length (now sheet)) ⌝ }
+    ensures { λ r. ⌜ LaidOut (now (s .entry)) (now (sheet .entry)) (now (sheet .exit)) ⌝ }
+{
+    let mut i: usize = 0;
+    while i < 508 {
+        sheet[i] = s[i];
+        i += 1;
+    }
+}
+
+// Folds the sheet at byte n: each byte from there on is laid upon the one n before it, which is of its own column if n is a multiple
+// of four.
+fn fold(sheet: &mut [u8], n: usize)
+    requires { ⌜ n + n ≤ length (now sheet) ⌝ }
+    ensures { λ r. ⌜ Folded n (now (sheet .entry)) (now (sheet .exit)) ⌝ }
+{
+    let mut i: usize = 0;
+    while i < n {
+        sheet[i] = sheet[i] ^ sheet[n + i];
+        i += 1;
+    }
+}
+
+// The XOR of the 127 words of bytes 0 to 507, which are there, by columns: the sheet is folded in the middle until one row is left.
+// Its four bytes are the four columns, each folded by itself, and are joined. (docs/CHECKSUM.md follows it on a dump.)
 fn xor_words(s: &[u8]) -> u32
     requires { ⌜ 508 ≤ length (now s) ⌝ }
     ensures { λ r. ⌜ r ≡ xorOf (now (s .entry)) 127 ⌝ }
 {
-    let mut x: u32 = 0;
-    let mut i: usize = 0;
-    while i < 127 {
-        x = x ^ words::join4(s[4 * i], s[4 * i + 1], s[4 * i + 2], s[4 * i + 3]);
-        i += 1;
-    }
-    x
+    let mut sheet = [0u8; 512];
+    lay_out(s, &mut sheet);
+    fold(&mut sheet, 256);
+    fold(&mut sheet, 128);
+    fold(&mut sheet, 64);
+    fold(&mut sheet, 32);
+    fold(&mut sheet, 16);
+    fold(&mut sheet, 8);
+    fold(&mut sheet, 4);
+    let first = sheet[0];
+    let second = sheet[1];
+    let third = sheet[2];
+    let fourth = sheet[3];
+    words::join4(first, second, third, fourth)
 }
 
 fn mend(x: u32) -> u32

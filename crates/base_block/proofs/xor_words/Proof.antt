@@ -1,95 +1,143 @@
-use Prim.Native.Nat.{_≤_, _-_}
-use mathlib.Core.Path.{_≡_}
-use native.Mathlib.Omega.{arith}
-use Rattle.base_block.specs.Checksum.{xorOf}
-use Rattle.base_block.proofs.Checksums.{xor-more}
+use mathlib.Core.Path.{_∙_}
+use Rattle.base_block.proofs.Columns.{fold-keeps, laid-columns, row-joined}
 use borrow.Author.Needs.{needs}
 use Rattle.base_block.proofs.xor_words.Statement.{statement}
 use Rattle.base_block.proofs.xor_words.Tie as tie
 use Rattle.base_block.proofs.xor_words.Reads as reads
 use Rattle.base_block.proofs.xor_words.Lts as lts
+use Rattle.base_block.proofs.fold.Reads as fold-reads
+use Rattle.base_block.proofs.lay_out.Reads as lay-out-reads
 use Rattle.words.proofs.join4.Reads as join4-reads
 
-abbrev Inv-loop : tie.InvT-loop
-Inv-loop s x₀ i₀ x i = (i ≤ 127) × (x ≡ xorOf s i)
+-- src/lib.rt:49:16
+slice-aggregate-lay-out : tie.Need-slice-aggregate-lay-out
+slice-aggregate-lay-out c = search needs
 
-abbrev μ-loop : tie.MeasureT-loop
-μ-loop s x₀ i₀ x i = 127 - i
+-- src/lib.rt:49:5
+lay-out-requires : tie.Need-lay-out-requires
+lay-out-requires c κs = search needs
 
-loop-holds : tie.Need-loop-holds Inv-loop μ-loop
-unfolding xorOf
-loop-holds c = search needs
+-- src/lib.rt:50:10
+slice-aggregate-fold : tie.Need-slice-aggregate-fold
+slice-aggregate-fold c = search needs
 
-mul-join4 : tie.Need-mul-join4 Inv-loop μ-loop
-mul-join4 c = search needs
+-- src/lib.rt:50:5
+fold-requires : tie.Need-fold-requires
+fold-requires c κs = search needs
 
-shared-slice-read-join4 : tie.Need-shared-slice-read-join4 Inv-loop μ-loop
-shared-slice-read-join4 c = search needs
+-- src/lib.rt:51:10
+slice-aggregate-fold-2 : tie.Need-slice-aggregate-fold-2
+slice-aggregate-fold-2 c = search needs
 
-mul-join4-2 : tie.Need-mul-join4-2 Inv-loop μ-loop
-mul-join4-2 c = search needs
+-- src/lib.rt:51:5
+fold-requires-2 : tie.Need-fold-requires-2
+fold-requires-2 c κs = search needs
 
-add-join4 : tie.Need-add-join4 Inv-loop μ-loop
-add-join4 c = search needs
+-- src/lib.rt:52:10
+slice-aggregate-fold-3 : tie.Need-slice-aggregate-fold-3
+slice-aggregate-fold-3 c = search needs
 
-shared-slice-read-join4-2 : tie.Need-shared-slice-read-join4-2 Inv-loop μ-loop
-shared-slice-read-join4-2 c = search needs
+-- src/lib.rt:52:5
+fold-requires-3 : tie.Need-fold-requires-3
+fold-requires-3 c κs = search needs
 
-mul-join4-3 : tie.Need-mul-join4-3 Inv-loop μ-loop
-mul-join4-3 c = search needs
+-- src/lib.rt:53:10
+slice-aggregate-fold-4 : tie.Need-slice-aggregate-fold-4
+slice-aggregate-fold-4 c = search needs
 
-add-join4-2 : tie.Need-add-join4-2 Inv-loop μ-loop
-add-join4-2 c = search needs
+-- src/lib.rt:53:5
+fold-requires-4 : tie.Need-fold-requires-4
+fold-requires-4 c κs = search needs
 
-shared-slice-read-join4-3 : tie.Need-shared-slice-read-join4-3 Inv-loop μ-loop
-shared-slice-read-join4-3 c = search needs
+-- src/lib.rt:54:10
+slice-aggregate-fold-5 : tie.Need-slice-aggregate-fold-5
+slice-aggregate-fold-5 c = search needs
 
-mul-join4-4 : tie.Need-mul-join4-4 Inv-loop μ-loop
-mul-join4-4 c = search needs
+-- src/lib.rt:54:5
+fold-requires-5 : tie.Need-fold-requires-5
+fold-requires-5 c κs = search needs
 
-add-join4-3 : tie.Need-add-join4-3 Inv-loop μ-loop
-add-join4-3 c = search needs
+-- src/lib.rt:55:10
+slice-aggregate-fold-6 : tie.Need-slice-aggregate-fold-6
+slice-aggregate-fold-6 c = search needs
 
-shared-slice-read-join4-4 : tie.Need-shared-slice-read-join4-4 Inv-loop μ-loop
-shared-slice-read-join4-4 c = search needs
+-- src/lib.rt:55:5
+fold-requires-6 : tie.Need-fold-requires-6
+fold-requires-6 c κs = search needs
 
-join4-requires : tie.Need-join4-requires Inv-loop μ-loop
+-- src/lib.rt:56:10
+slice-aggregate-fold-7 : tie.Need-slice-aggregate-fold-7
+slice-aggregate-fold-7 c = search needs
+
+-- src/lib.rt:56:5
+fold-requires-7 : tie.Need-fold-requires-7
+fold-requires-7 c κs = search needs
+
+-- src/lib.rt:57:17
+array-read-first : tie.Need-array-read-first
+array-read-first c = search needs
+
+-- src/lib.rt:58:18
+array-read-second : tie.Need-array-read-second
+array-read-second c = search needs
+
+-- src/lib.rt:59:17
+array-read-third : tie.Need-array-read-third
+array-read-third c = search needs
+
+-- src/lib.rt:60:18
+array-read-fourth : tie.Need-array-read-fourth
+array-read-fourth c = search needs
+
+-- src/lib.rt:61:5
+join4-requires : tie.Need-join4-requires
 join4-requires c κs = search needs
 
-add-i : tie.Need-add-i Inv-loop μ-loop
-add-i c = search needs
-
-loop-less : tie.Need-loop-less Inv-loop μ-loop
-loop-less c = search needs
-
-loop-again : tie.Need-loop-again Inv-loop μ-loop
-loop-again c =
-    let l = c .before .before .before .before .before .before .loop in
-    (search needs, rw (l .inv .1) (xor-more (c .before .before .before .before .before .before .before .before .args .s .now) (l .i) (c .join4 .result) (c .join4 .ensures)))
-
-returns : tie.Need-returns Inv-loop μ-loop
-returns c = let e : c .before .loop .i ≡ 127 = omega arith in cc
+returns : tie.Need-returns
+returns c =
+    let c7 = c .before .before in
+    let c6 = c7 .before .before .before in
+    let c5 = c6 .before .before .before in
+    let c4 = c5 .before .before .before in
+    let c3 = c4 .before .before .before in
+    let c2 = c3 .before .before .before in
+    let c1 = c2 .before .before .before in
+    let c0 = c1 .before .before .before in
+    let s = c0 .before .before .before .args .s .now in
+    c .join4 .ensures ∙ row-joined s _ (λ i. c0 .before .before .shared-slice-known .given i .fits) 127
+    (λ k h.
+    fold-keeps 1 (c7 .fold7 .ensures) k h
+    ∙ fold-keeps 2 (c6 .fold6 .ensures) k h
+    ∙ fold-keeps 4 (c5 .fold5 .ensures) k h
+    ∙ fold-keeps 8 (c4 .fold4 .ensures) k h
+    ∙ fold-keeps 16 (c3 .fold3 .ensures) k h
+    ∙ fold-keeps 32 (c2 .fold2 .ensures) k h
+    ∙ fold-keeps 64 (c1 .fold .ensures) k h
+    ∙ laid-columns s _ (c0 .lay-out .ensures) k h)
 
 pub xor-words-spec : {M : Type 1} → statement M
 xor-words-spec =
     tie.close
     (tie.spec
-    Inv-loop
-    μ-loop
-    loop-holds
-    mul-join4
-    shared-slice-read-join4
-    mul-join4-2
-    add-join4
-    shared-slice-read-join4-2
-    mul-join4-3
-    add-join4-2
-    shared-slice-read-join4-3
-    mul-join4-4
-    add-join4-3
-    shared-slice-read-join4-4
+    slice-aggregate-lay-out
+    lay-out-requires
+    slice-aggregate-fold
+    fold-requires
+    slice-aggregate-fold-2
+    fold-requires-2
+    slice-aggregate-fold-3
+    fold-requires-3
+    slice-aggregate-fold-4
+    fold-requires-4
+    slice-aggregate-fold-5
+    fold-requires-5
+    slice-aggregate-fold-6
+    fold-requires-6
+    slice-aggregate-fold-7
+    fold-requires-7
+    array-read-first
+    array-read-second
+    array-read-third
+    array-read-fourth
     join4-requires
-    add-i
-    loop-less
-    loop-again
     returns)

@@ -1,0 +1,44 @@
+-- The checksum by columns. Document 02, order 3: "four byte columns, each folded by itself and joined at the end".
+use Prim.Native.Nat.{ℕ, zero, suc, _+_, _*_, _^_, _≤_, _<_}
+use mathlib.Core.Path.{_≡_}
+use mathlib.Core.List.{List}
+use lib.Bits.{bitXor}
+use Rattle.words.specs.Words.{byteAt}
+use Rattle.base_block.specs.Checksum.{xorOf, mended, checksumOf}
+use Rattle.base_block.specs.Block.{blockOf}
+use Rattle.base_block.specs.Answers.{sumPaper, blockPaper}
+use Rattle.base_block.specs.declared.Checksum.the-variants as sum
+use Rattle.base_block.specs.declared.BaseBlock.{BaseBlock}
+use Rattle.base_block.specs.declared.BlockAnswer.the-variants as block
+
+-- a column: byte c of each of the first n rows of four bytes, folded from 0
+unfoldable pub columnOf : List ℕ → ℕ → ℕ → ℕ
+columnOf s c zero = 0
+columnOf s c (suc n) = bitXor (columnOf s c n) (byteAt s (4 * n + c))
+
+-- the first k columns joined, the first of them the lowest byte
+unfoldable pub joinOf : ℕ → List ℕ → ℕ → ℕ
+joinOf zero s n = 0
+joinOf (suc k) s n = joinOf k s n + columnOf s k n * 256 ^ k
+
+-- What an auditor reads: the words' XOR is the four columns joined, and so is the checksum of each answer before it is mended. Of
+-- every row of bytes; proved as `by-columns` in proofs/Columns.antt.
+pub record ByColumns (s : List ℕ) : Type 0 where
+  pub words : (n : ℕ) → xorOf s n ≡ joinOf 4 s n
+  pub checksum : (x : ℕ) → sumPaper (sum.Sum x) ≡ checksumOf s → x ≡ mended (joinOf 4 s 127)
+  pub computed : (b : BaseBlock) → blockPaper (block.Block b) ≡ blockOf s → b .«computed_checksum» ≡ mended (joinOf 4 s 127)
+
+-- ---- the sheet on which the code folds them: rows of four bytes
+
+-- its first n bytes are written by a rule, and the others are as they were
+pub record Written (n : ℕ) (rule : ℕ → ℕ) (old new : List ℕ) : Type 0 where
+  pub first : (i : ℕ) → i < n → byteAt new i ≡ rule i
+  pub rest : (i : ℕ) → n ≤ i → byteAt new i ≡ byteAt old i
+
+-- the first 508 bytes of s are copied
+abbrev pub LaidOut : List ℕ → List ℕ → List ℕ → Type 0
+LaidOut s old new = Written 508 (byteAt s) old new
+
+-- the n bytes from byte n on are laid upon the first n
+abbrev pub Folded : ℕ → List ℕ → List ℕ → Type 0
+Folded n old new = Written n (λ (i : ℕ). bitXor (byteAt old i) (byteAt old (n + i))) old new

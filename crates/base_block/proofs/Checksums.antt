@@ -3,22 +3,13 @@ use mathlib.Core.Path.{_≡_, refl}
 use mathlib.Core.List.{List}
 use mathlib.Core.Bool.{Bool, true, false, cond}
 use Prim.Native.Nat.{ℕ, zero, suc, _+_, _*_, _^_, _≤_, _<_}
-use native.Mathlib.Numerals.{add-one}
 use native.Mathlib.Omega.{arith}
 use lib.Bits.{bitXor, xor-lt}
 use lib.Dec.{eqb}
 use borrow.Author.Tests.{eqb-false}
-use Rattle.words.specs.Words.{byteAt, word32}
-use Rattle.words.proofs.Little.{Bytes, little-lt, little-4}
+use Rattle.words.specs.Words.{word32}
+use Rattle.words.proofs.Little.{Bytes, little-lt}
 use Rattle.base_block.specs.Checksum.{xorOf, mended, sumOf}
-
--- one word more, given by its bytes
-pub xor-more :
-    (s : List ℕ) (n w : ℕ)
-    → w ≡ byteAt s (4 * n) + 256 * byteAt s (4 * n + 1) + 65536 * byteAt s (4 * n + 2) + 16777216 * byteAt s (4 * n + 3)
-    → bitXor (xorOf s n) w ≡ xorOf s (n + 1)
-unfolding xorOf
-xor-more s n w e = rw (e, ← little-4 s (4 * n), add-one)
 
 xor-range : (s : List ℕ) → Bytes s → (n : ℕ) → xorOf s n < 2 ^ 32
 unfolding xorOf

@@ -1,20 +1,27 @@
 -- Laws of the checksum by columns. Assumes nothing.
 use mathlib.Core.Path.{_≡_, refl, sym, ap, ap₂, _∙_}
 use mathlib.Core.List.{List}
+use mathlib.Core.Bool.{Bool, true, false, cond}
 use Prim.Native.Nat.{ℕ, zero, suc, _+_, _*_, _/_, _%_, _^_, _≤_, _<_}
 use native.Mathlib.Nat.{add-comm, add-suc, add-zero, mul-add, mul-le-mul-right, pow-suc, mod-lt}
 use native.Mathlib.Numerals.{add-one}
 use native.Mathlib.Decide.{decLe}
 use native.Mathlib.Omega.{arith}
 use lib.Arith.{bin-ind, digits-div, digits-mod}
+use lib.Dec.{ltb, eqb}
 use lib.Bits.{bitXor, differ, xor-step, xor-comm, xor-zero-r, xor-lt, xor-block}
 use lib.Pow.{pow-add}
 use lib.ListN.{length, set, replicate, length-set, getD-replicate}
 use lib.Seq.{getD-set-same, getD-set-other}
 use Rattle.words.specs.Words.{byteAt, little, word32}
+use Rattle.words.specs.Refusals.{SHORT}
+use Rattle.words.specs.Paper.{success, refused, by, checked}
 use Rattle.words.proofs.Little.{Bytes, little-lt}
-use Rattle.base_block.specs.Checksum.{xorOf}
-use Rattle.base_block.specs.Columns.{columnOf, joinOf, Written, Folded, LaidOut}
+use Rattle.words.proofs.Papers.{success-refused, same-success}
+use Rattle.base_block.specs.Checksum.{xorOf, mended, sumOf, checksumOf}
+use Rattle.base_block.specs.Block.{faultOf, firstOf, fieldsOf, blockOf}
+use Rattle.base_block.specs.Columns.{columnOf, joinOf, ByColumns, Written, LaidOut, Folded}
+use Rattle.base_block.specs.declared.BaseBlock.{BaseBlock}
 
 -- ---- XOR of three and of four numbers
 
@@ -170,3 +177,31 @@ pub row-joined :
     → byteAt t 0 + 256 * byteAt t 1 + 65536 * byteAt t 2 + 16777216 * byteAt t 3 ≡ xorOf s n
 unfolding joinOf columnOf
 row-joined s t b n k = omega (arith, words-by-columns s b n, k 0 (omega arith), k 1 (omega arith), k 2 (omega arith), k 3 (omega arith))
+
+-- ---- and so of every answer
+
+by-sum : (s : List ℕ) (x : ℕ) → success x ≡ checksumOf s → x ≡ sumOf s
+unfolding checksumOf
+by-sum s x = go (ltb (length s) 508)
+  where
+    go : (p : Bool) → success x ≡ cond p (refused (by SHORT 0)) (success (sumOf s)) → x ≡ sumOf s
+    go true e = absurd (success-refused e)
+    go false e = same-success e
+
+by-block : (s : List ℕ) (b : BaseBlock) → success b ≡ blockOf s → b ≡ fieldsOf s
+unfolding blockOf checked
+by-block s b = go (eqb (faultOf s) 0)
+  where
+    go : (p : Bool) → success b ≡ cond p (success (fieldsOf s)) (refused (by (faultOf s) 0)) → b ≡ fieldsOf s
+    go true e = same-success e
+    go false e = absurd (success-refused e)
+
+pub by-columns : (s : List ℕ) → Bytes s → ByColumns s
+unfolding sumOf fieldsOf firstOf
+by-columns s b =
+    let sum : sumOf s ≡ mended (joinOf 4 s 127) = ap mended (words-by-columns s b 127) in
+    record {
+      words = words-by-columns s b;
+      checksum = λ x e. by-sum s x e ∙ sum;
+      computed = λ k e. ap (λ (f : BaseBlock). f .«computed_checksum») (by-block s k e) ∙ sum;
+    }

@@ -158,8 +158,8 @@ column-two s t c d (suc n) h =
     ap₂ bitXor (column-two s t c d n (λ i k. h i (omega arith))) (h n (omega arith))
     ∙ xor-four (columnOf s c n) (columnOf s d n) (byteAt s (4 * n + c)) (byteAt s (4 * n + d))
 
--- a fold at m rows keeps each column of twice as many
-pub fold-keeps : (m : ℕ) {s t : List ℕ} → Folded (4 * m) s t → (c : ℕ) → c < 4 → columnOf t c m ≡ columnOf s c (m + m)
+-- a fold keeps each column: so many rows have what twice as many had
+pub fold-keeps : (m : ℕ) {s t : List ℕ} → Folded m s t → (c : ℕ) → c < 4 → columnOf t c m ≡ columnOf s c (m + m)
 fold-keeps m {s} {t} w c h =
     column-two s t c (4 * m + c) m (λ i k. w .first (4 * i + c) (omega arith) ∙ ap (λ (j : ℕ). bitXor (byteAt s (4 * i + c)) (byteAt s j)) (omega arith))
     ∙ sym (column-split s c m m)

@@ -39,6 +39,6 @@ pub record Written (n : ℕ) (rule : ℕ → ℕ) (old new : List ℕ) : Type 0 
 abbrev pub LaidOut : List ℕ → List ℕ → List ℕ → Type 0
 LaidOut s old new = Written 508 (byteAt s) old new
 
--- the n bytes from byte n on are laid upon the first n
+-- the first m rows have the next m laid upon them
 abbrev pub Folded : ℕ → List ℕ → List ℕ → Type 0
-Folded n old new = Written n (λ (i : ℕ). bitXor (byteAt old i) (byteAt old (n + i))) old new
+Folded m old new = Written (4 * m) (λ (i : ℕ). bitXor (byteAt old i) (byteAt old (4 * m + i))) old new

@@ -1,6 +1,6 @@
 // The base block of a hive, its first 4,096 bytes, and its checksum.
 ghost use mathlib.Core.Path.{_≡_};
-ghost use Prim.Native.Nat.{_+_, _≤_};
+ghost use Prim.Native.Nat.{_*_, _≤_};
 ghost use lib.ListN.{length};
 ghost use Rattle.words.specs.Parts.{Part};
 ghost use Rattle.base_block.specs.Checksum.{xorOf, mended, checksumOf};
@@ -14,7 +14,7 @@ pub enum Checksum {
     Refused(Refusal),
 }
 
-// Copies bytes 0 to 507 to a sheet of 128 rows of four. The last row, where the checksum itself stands, is left as it is.
+// Copies bytes 0 to 507 to a sheet, where they are 127 rows of four columns.
 fn lay_out(s: &[u8], sheet: &mut [u8])
     requires { ⌜ (508 ≤ length (now s)) × (508 ≤ length (now sheet)) ⌝ }
     ensures { λ r. ⌜ LaidOut (now (s .entry)) (now (sheet .entry)) (now (sheet .exit)) ⌝ }
@@ -26,34 +26,34 @@ fn lay_out(s: &[u8], sheet: &mut [u8])
     }
 }
 
-// Folds the sheet at byte n: each byte from there on is laid upon the one n before it, which is of its own column if n is a multiple
-// of four.
-fn fold(sheet: &mut [u8], n: usize)
-    requires { ⌜ n + n ≤ length (now sheet) ⌝ }
-    ensures { λ r. ⌜ Folded n (now (sheet .entry)) (now (sheet .exit)) ⌝ }
+// Folds the sheet between its first `rows` rows and as many below them: row upon row, so that each column is folded by itself.
+fn fold(sheet: &mut [u8], rows: usize)
+    requires { ⌜ 8 * rows ≤ length (now sheet) ⌝ }
+    ensures { λ r. ⌜ Folded rows (now (sheet .entry)) (now (sheet .exit)) ⌝ }
 {
+    let half = 4 * rows;
     let mut i: usize = 0;
-    while i < n {
-        sheet[i] = sheet[i] ^ sheet[n + i];
+    while i < half {
+        sheet[i] = sheet[i] ^ sheet[half + i];
         i += 1;
     }
 }
 
-// The XOR of the 127 words of bytes 0 to 507, which are there, by columns: the sheet is folded in the middle until one row is left.
-// Its four bytes are the four columns, each folded by itself, and are joined. (docs/CHECKSUM.md follows it on a dump.)
+// The XOR of the 127 words of bytes 0 to 507, which are there, by columns: the sheet, whose last row is blank where the checksum itself
+// would stand, is folded until one row is left, and the four columns are joined. (docs/CHECKSUM.md follows it on a dump.)
 fn xor_words(s: &[u8]) -> u32
     requires { ⌜ 508 ≤ length (now s) ⌝ }
     ensures { λ r. ⌜ r ≡ xorOf (now (s .entry)) 127 ⌝ }
 {
     let mut sheet = [0u8; 512];
     lay_out(s, &mut sheet);
-    fold(&mut sheet, 256);
-    fold(&mut sheet, 128);
     fold(&mut sheet, 64);
     fold(&mut sheet, 32);
     fold(&mut sheet, 16);
     fold(&mut sheet, 8);
     fold(&mut sheet, 4);
+    fold(&mut sheet, 2);
+    fold(&mut sheet, 1);
     let first = sheet[0];
     let second = sheet[1];
     let third = sheet[2];

@@ -1,26 +1,24 @@
+use borrow.Author.Needs.{needs}
 use Prim.Native.Nat.{ℕ, _+_, _-_}
 use mathlib.Core.Path.{ap₂}
 use native.Mathlib.Omega.{arith}
 use lib.Bits.{bitXor}
 use Rattle.words.specs.Words.{byteAt}
 use Rattle.base_block.proofs.Columns.{Filling, filling-start, filling-more, filling-done}
-use borrow.Author.Needs.{needs}
-use Prim.Native.Nat.{ℕ, _+_, _≤_, _-_}
-use mathlib.Core.Path.{_≡_}
-use lib.ListN.{length}
-use lib.Bits.{bitXor}
-use Rattle.words.specs.Words.{byteAt}
-use Rattle.base_block.specs.Columns.{Written}
 use Rattle.base_block.proofs.fold.Statement.{statement}
 use Rattle.base_block.proofs.fold.Tie as tie
 use Rattle.base_block.proofs.fold.Reads as reads
 use Rattle.base_block.proofs.fold.Lts as lts
 
 abbrev Inv-loop : tie.InvT-loop
-Inv-loop sheet₀ n i₀ sheet i = Filling n (λ (j : ℕ). bitXor (byteAt sheet₀ j) (byteAt sheet₀ (n + j))) sheet₀ sheet i
+Inv-loop sheet₀ rows half i₀ sheet i = Filling half (λ (j : ℕ). bitXor (byteAt sheet₀ j) (byteAt sheet₀ (half + j))) sheet₀ sheet i
 
 abbrev μ-loop : tie.MeasureT-loop
-μ-loop sheet₀ n i₀ sheet i = n - i
+μ-loop sheet₀ rows half i₀ sheet i = half - i
+
+-- src/lib.rt:34:16
+mul-half : tie.Need-mul-half Inv-loop μ-loop
+mul-half c = search needs
 
 -- src/lib.rt:36:5
 loop-holds : tie.Need-loop-holds Inv-loop μ-loop
@@ -57,11 +55,11 @@ loop-again c =
     let w = l .inv .so-far in
     filling-more _ (omega (arith, c .before .before .before .before .pre)) (c .before .before .loop-test .taken) (ap₂ bitXor (w .rest (l .i) (omega arith)) (w .rest _ (omega arith))) (l .inv)
 
--- src/lib.rt:31:1
+-- src/lib.rt:30:1
 same-length : tie.Need-same-length Inv-loop μ-loop
 same-length c = search needs
 
--- src/lib.rt:31:1
+-- src/lib.rt:30:1
 returns : tie.Need-returns Inv-loop μ-loop
 returns c = filling-done (c .loop-test .left) (c .before .loop .inv)
 
@@ -71,6 +69,7 @@ fold-spec =
     (tie.spec
     Inv-loop
     μ-loop
+    mul-half
     loop-holds
     slice-read-sheet
     add-sheet

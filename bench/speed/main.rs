@@ -1,5 +1,6 @@
 //! Times the checksum and the walk in Rattle (linked from libspeed.a) and in plain Rust, over the same slices, in one process.
 mod plain;
+mod sums;
 mod variants;
 
 use std::hint::black_box;
@@ -39,11 +40,32 @@ exported!(by_leaf, variants::by_leaf);
 exported!(sixteen, variants::sixteen);
 exported!(recursive, variants::recursive);
 
-unsafe extern "C" fn plain_checksum(bytes: *const u8, len: usize) -> u32 {
-    plain::checksum(unsafe { std::slice::from_raw_parts(bytes, len) }).unwrap_or(0)
+/// A checksum in Rust behind the same signature as the one in Rattle: 0 for a refusal.
+macro_rules! exported_sum {
+    ($name:ident, $sum:path) => {
+        unsafe extern "C" fn $name(bytes: *const u8, len: usize) -> u32 {
+            $sum(unsafe { std::slice::from_raw_parts(bytes, len) }).unwrap_or(0)
+        }
+    };
 }
 
+exported_sum!(plain_checksum, plain::checksum);
+exported_sum!(four_loops, sums::four_loops);
+exported_sum!(sum_rows, sums::rows);
+exported_sum!(lines_of_16, sums::lines_of_16);
+exported_sum!(lines_of_64, sums::lines_of_64);
+exported_sum!(sheet, sums::sheet);
+
 const VARIANTS: [(&str, Walk); 4] = [("direct", direct), ("by leaf", by_leaf), ("sixteen", sixteen), ("recursive", recursive)];
+const SUMS: [(&str, Sum); 7] = [
+    ("Rattle", speed_checksum),
+    ("plain", plain_checksum),
+    ("four loops", four_loops),
+    ("rows", sum_rows),
+    ("lines of 16", lines_of_16),
+    ("lines of 64", lines_of_64),
+    ("sheet", sheet),
+];
 
 /// Numbers that look random, the same in every run.
 struct Random(u64);
@@ -249,9 +271,9 @@ fn compare_random(rounds: usize) {
             let x = bytes[..504].chunks(4).fold(0, |x, w| x ^ u32::from_le_bytes(w.try_into().unwrap()));
             bytes[504..508].copy_from_slice(&(if i % 8 == 0 { x } else { !x }).to_le_bytes());
         }
-        let (one, two) = unsafe { (speed_checksum(bytes.as_ptr(), bytes.len()), plain_checksum(bytes.as_ptr(), bytes.len())) };
-        assert_eq!(one, two, "checksums differ");
-        sums[match one { 0 => 0, 1 => 1, 0xffff_fffe => 2, _ => 3 }] += 1;
+        let all = SUMS.map(|(_, sum)| unsafe { sum(bytes.as_ptr(), bytes.len()) });
+        assert_eq!(all, [all[0]; SUMS.len()], "checksums differ");
+        sums[match all[0] { 0 => 0, 1 => 1, 0xffff_fffe => 2, _ => 3 }] += 1;
     }
     let told: Vec<String> = [2, 4, 7, 8, 9, 13, 14, 15].iter().map(|n| format!("{n}: {}", seen[*n])).collect();
     println!("Answers and buffers alike on {rounds} small images: {} successes, {dropped} of them with entries dropped; refusals {}.", seen[0], told.join(", "));
@@ -337,19 +359,23 @@ fn main() {
         vec![speed_walk, plain_walk, direct]
     };
     let mut buffer = vec![0u32; rows.iter().map(|r| r.places).max().unwrap().max(4096)];
-    let mut sums = vec![Vec::new(); 2];
+    let which: Vec<Sum> = SUMS.iter().take(if variants { SUMS.len() } else { 2 }).map(|s| s.1).collect();
+    let mut sums = vec![Vec::new(); which.len()];
     let image: Vec<u8> = (0..4096u32).map(|i| (i * 167 >> 3) as u8).collect();
     // the rows take turns in ten rounds, so that a moment in which the machine is busy falls on all of them alike
     for _ in 0..10 {
-        time_sum(&mut sums, &[speed_checksum, plain_checksum], turns.div_ceil(10), &image);
+        time_sum(&mut sums, &which, turns.div_ceil(10), &image);
         for row in rows.iter_mut() {
             let n = row.turns.div_ceil(10);
             time_row(row, &walks, n, &mut buffer);
         }
     }
     if variants {
+        let least: Vec<String> = sums.iter_mut().map(|t| show(two(t).0)).collect();
+        println!("Least times.\n\n| row | {} |\n|---|{}", SUMS.map(|s| s.0).join(" | "), "---|".repeat(SUMS.len()));
+        println!("| checksum of 508 bytes | {} |\n", least.join(" | "));
         let names: Vec<&str> = ["plain"].into_iter().chain(VARIANTS.iter().map(|v| v.0)).collect();
-        println!("Least times.\n\n| row | {} |\n|---|{}", names.join(" | "), "---|".repeat(names.len()));
+        println!("| row | {} |\n|---|{}", names.join(" | "), "---|".repeat(names.len()));
         for row in rows.iter_mut() {
             let least: Vec<String> = row.times.iter_mut().map(|t| show(two(t).0)).collect();
             println!("| {} | {} |", row.name, least.join(" | "));

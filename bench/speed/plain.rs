@@ -30,11 +30,15 @@ pub struct Refusal {
 
 pub fn checksum(bytes: &[u8]) -> Result<u32, u32> {
     let (words, _) = bytes.get(..508).ok_or(SHORT)?.as_chunks::<4>();
-    Ok(match words.iter().fold(0, |x, w| x ^ u32::from_le_bytes(*w)) {
+    Ok(mend(words.iter().fold(0, |x, w| x ^ u32::from_le_bytes(*w))))
+}
+
+pub fn mend(x: u32) -> u32 {
+    match x {
         0 => 1,
         u32::MAX => u32::MAX - 1,
         x => x,
-    })
+    }
 }
 
 /// The entries of a list, by its kind.

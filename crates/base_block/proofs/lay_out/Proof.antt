@@ -1,5 +1,6 @@
 use Prim.Native.Nat.{_-_}
 use mathlib.Core.Path.{refl}
+use native.Mathlib.Omega.{arith}
 use Rattle.words.specs.Words.{byteAt}
 use Rattle.base_block.proofs.Columns.{Filling, filling-start, filling-more, filling-done}
 use borrow.Author.Needs.{needs}
@@ -42,7 +43,7 @@ loop-less c = search needs
 
 -- src/lib.rt:23:5
 loop-again : tie.Need-loop-again Inv-loop μ-loop
-loop-again c = filling-more _ (c .before .before .before .pre .1) (c .before .loop-test .taken) refl (c .before .before .loop .inv)
+loop-again c = filling-more _ (c .before .before .before .pre .1) (omega arith) refl (c .before .before .loop .inv)
 
 -- src/lib.rt:18:1
 same-length : tie.Need-same-length Inv-loop μ-loop

@@ -4,7 +4,7 @@ use mathlib.Core.Path.{ap₂}
 use native.Mathlib.Omega.{arith}
 use lib.Bits.{bitXor}
 use Rattle.words.specs.Words.{byteAt}
-use Rattle.base_block.proofs.Columns.{Filling, filling-start, filling-more, filling-done}
+use Rattle.base_block.proofs.Sheets.{Filling, filling-start, filling-more, filling-done}
 use Rattle.base_block.proofs.fold.Statement.{statement}
 use Rattle.base_block.proofs.fold.Tie as tie
 use Rattle.base_block.proofs.fold.Reads as reads
@@ -16,50 +16,39 @@ Inv-loop sheet₀ rows half i₀ sheet i = Filling half (λ (j : ℕ). bitXor (b
 abbrev μ-loop : tie.MeasureT-loop
 μ-loop sheet₀ rows half i₀ sheet i = half - i
 
--- src/lib.rt:34:16
 mul-half : tie.Need-mul-half Inv-loop μ-loop
 mul-half c = search needs
 
--- src/lib.rt:36:5
 loop-holds : tie.Need-loop-holds Inv-loop μ-loop
 loop-holds c = filling-start
 
--- src/lib.rt:37:20
 slice-read-sheet : tie.Need-slice-read-sheet Inv-loop μ-loop
 slice-read-sheet c = search needs
 
--- src/lib.rt:37:37
 add-sheet : tie.Need-add-sheet Inv-loop μ-loop
 add-sheet c = search needs
 
--- src/lib.rt:37:31
 slice-read-sheet-2 : tie.Need-slice-read-sheet-2 Inv-loop μ-loop
 slice-read-sheet-2 c = search needs
 
--- src/lib.rt:37:9
 slice-write-sheet : tie.Need-slice-write-sheet Inv-loop μ-loop
 slice-write-sheet c = search needs
 
--- src/lib.rt:38:9
 add-i : tie.Need-add-i Inv-loop μ-loop
 add-i c = search needs
 
--- src/lib.rt:36:5
 loop-less : tie.Need-loop-less Inv-loop μ-loop
 loop-less c = search needs
 
--- src/lib.rt:36:5
 loop-again : tie.Need-loop-again Inv-loop μ-loop
 loop-again c =
     let l = c .before .before .before .loop in
     let w = l .inv .so-far in
     filling-more _ (omega (arith, c .before .before .before .before .pre)) (c .before .before .loop-test .taken) (ap₂ bitXor (w .rest (l .i) (omega arith)) (w .rest _ (omega arith))) (l .inv)
 
--- src/lib.rt:30:1
 same-length : tie.Need-same-length Inv-loop μ-loop
 same-length c = search needs
 
--- src/lib.rt:30:1
 returns : tie.Need-returns Inv-loop μ-loop
 returns c = filling-done (c .loop-test .left) (c .before .loop .inv)
 

@@ -2,7 +2,7 @@ use Prim.Native.Nat.{_-_}
 use mathlib.Core.Path.{refl}
 use native.Mathlib.Omega.{arith}
 use Rattle.words.specs.Words.{byteAt}
-use Rattle.base_block.proofs.Columns.{Filling, filling-start, filling-more, filling-done}
+use Rattle.base_block.proofs.Sheets.{Filling, filling-start, filling-more, filling-done}
 use borrow.Author.Needs.{needs}
 use Prim.Native.Nat.{ℕ, _+_, _≤_, _-_}
 use mathlib.Core.Path.{_≡_}
@@ -21,35 +21,27 @@ Inv-loop s sheet₀ i₀ sheet i = Filling 508 (byteAt s) sheet₀ sheet i
 abbrev μ-loop : tie.MeasureT-loop
 μ-loop s sheet₀ i₀ sheet i = 508 - i
 
--- src/lib.rt:23:5
 loop-holds : tie.Need-loop-holds Inv-loop μ-loop
 loop-holds c = filling-start
 
--- src/lib.rt:24:20
 shared-slice-read-sheet : tie.Need-shared-slice-read-sheet Inv-loop μ-loop
 shared-slice-read-sheet c = search needs
 
--- src/lib.rt:24:9
 slice-write-sheet : tie.Need-slice-write-sheet Inv-loop μ-loop
 slice-write-sheet c = search needs
 
--- src/lib.rt:25:9
 add-i : tie.Need-add-i Inv-loop μ-loop
 add-i c = search needs
 
--- src/lib.rt:23:5
 loop-less : tie.Need-loop-less Inv-loop μ-loop
 loop-less c = search needs
 
--- src/lib.rt:23:5
 loop-again : tie.Need-loop-again Inv-loop μ-loop
 loop-again c = filling-more _ (c .before .before .before .pre .1) (omega arith) refl (c .before .before .loop .inv)
 
--- src/lib.rt:18:1
 same-length : tie.Need-same-length Inv-loop μ-loop
 same-length c = search needs
 
--- src/lib.rt:18:1
 returns : tie.Need-returns Inv-loop μ-loop
 returns c = filling-done (c .loop-test .left) (c .before .loop .inv)
 

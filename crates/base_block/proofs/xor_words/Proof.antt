@@ -1,5 +1,5 @@
 use mathlib.Core.Path.{_∙_}
-use Rattle.base_block.proofs.Columns.{fold-keeps, laid-columns, row-joined}
+use Rattle.base_block.proofs.Sheets.{fold-keeps, laid-columns, row-joined}
 use borrow.Author.Needs.{needs}
 use Rattle.base_block.proofs.xor_words.Statement.{statement}
 use Rattle.base_block.proofs.xor_words.Tie as tie
@@ -9,87 +9,66 @@ use Rattle.base_block.proofs.fold.Reads as fold-reads
 use Rattle.base_block.proofs.lay_out.Reads as lay-out-reads
 use Rattle.words.proofs.join4.Reads as join4-reads
 
--- src/lib.rt:49:16
 slice-aggregate-lay-out : tie.Need-slice-aggregate-lay-out
 slice-aggregate-lay-out c = search needs
 
--- src/lib.rt:49:5
 lay-out-requires : tie.Need-lay-out-requires
 lay-out-requires c κs = search needs
 
--- src/lib.rt:50:10
 slice-aggregate-fold : tie.Need-slice-aggregate-fold
 slice-aggregate-fold c = search needs
 
--- src/lib.rt:50:5
 fold-requires : tie.Need-fold-requires
 fold-requires c κs = search needs
 
--- src/lib.rt:51:10
 slice-aggregate-fold-2 : tie.Need-slice-aggregate-fold-2
 slice-aggregate-fold-2 c = search needs
 
--- src/lib.rt:51:5
 fold-requires-2 : tie.Need-fold-requires-2
 fold-requires-2 c κs = search needs
 
--- src/lib.rt:52:10
 slice-aggregate-fold-3 : tie.Need-slice-aggregate-fold-3
 slice-aggregate-fold-3 c = search needs
 
--- src/lib.rt:52:5
 fold-requires-3 : tie.Need-fold-requires-3
 fold-requires-3 c κs = search needs
 
--- src/lib.rt:53:10
 slice-aggregate-fold-4 : tie.Need-slice-aggregate-fold-4
 slice-aggregate-fold-4 c = search needs
 
--- src/lib.rt:53:5
 fold-requires-4 : tie.Need-fold-requires-4
 fold-requires-4 c κs = search needs
 
--- src/lib.rt:54:10
 slice-aggregate-fold-5 : tie.Need-slice-aggregate-fold-5
 slice-aggregate-fold-5 c = search needs
 
--- src/lib.rt:54:5
 fold-requires-5 : tie.Need-fold-requires-5
 fold-requires-5 c κs = search needs
 
--- src/lib.rt:55:10
 slice-aggregate-fold-6 : tie.Need-slice-aggregate-fold-6
 slice-aggregate-fold-6 c = search needs
 
--- src/lib.rt:55:5
 fold-requires-6 : tie.Need-fold-requires-6
 fold-requires-6 c κs = search needs
 
--- src/lib.rt:56:10
 slice-aggregate-fold-7 : tie.Need-slice-aggregate-fold-7
 slice-aggregate-fold-7 c = search needs
 
--- src/lib.rt:56:5
 fold-requires-7 : tie.Need-fold-requires-7
 fold-requires-7 c κs = search needs
 
--- src/lib.rt:57:17
 array-read-first : tie.Need-array-read-first
 array-read-first c = search needs
 
--- src/lib.rt:58:18
 array-read-second : tie.Need-array-read-second
 array-read-second c = search needs
 
--- src/lib.rt:59:17
 array-read-third : tie.Need-array-read-third
 array-read-third c = search needs
 
--- src/lib.rt:60:18
 array-read-fourth : tie.Need-array-read-fourth
 array-read-fourth c = search needs
 
--- src/lib.rt:61:5
 join4-requires : tie.Need-join4-requires
 join4-requires c κs = search needs
 

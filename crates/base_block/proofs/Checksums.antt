@@ -2,19 +2,16 @@
 use mathlib.Core.Path.{_≡_, refl}
 use mathlib.Core.List.{List}
 use mathlib.Core.Bool.{Bool, true, false, cond}
-use Prim.Native.Nat.{ℕ, zero, suc, _+_, _*_, _^_, _≤_, _<_}
+use Prim.Native.Nat.{ℕ, _^_, _≤_, _<_}
 use native.Mathlib.Omega.{arith}
-use lib.Bits.{bitXor, xor-lt}
 use lib.Dec.{eqb}
 use borrow.Author.Tests.{eqb-false}
-use Rattle.words.specs.Words.{word32}
-use Rattle.words.proofs.Little.{Bytes, little-lt}
+use Rattle.words.proofs.Little.{Bytes}
 use Rattle.base_block.specs.Checksum.{xorOf, mended, sumOf}
+use Rattle.base_block.proofs.Columns.{join-lt, words-by-columns}
 
 xor-range : (s : List ℕ) → Bytes s → (n : ℕ) → xorOf s n < 2 ^ 32
-unfolding xorOf
-xor-range s b zero = omega arith
-xor-range s b (suc n) = xor-lt 32 (xorOf s n) (word32 s (4 * n)) (xor-range s b n) (little-lt 4 s b (4 * n))
+xor-range s b n = rw (words-by-columns s b n) (join-lt 4 s b n)
 
 abbrev Between : ℕ → Type 0
 Between x = (1 ≤ x) × (x ≤ 0xFFFF_FFFE)

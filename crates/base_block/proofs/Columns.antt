@@ -24,7 +24,7 @@ unfolding columnOf
 column-lt s b c zero = omega arith
 column-lt s b c (suc n) = xor-lt 8 (columnOf s c n) (byteAt s (4 * n + c)) (column-lt s b c n) (b (4 * n + c))
 
-join-lt : (k : ℕ) (s : List ℕ) → Bytes s → (n : ℕ) → joinOf k s n < 256 ^ k
+pub join-lt : (k : ℕ) (s : List ℕ) → Bytes s → (n : ℕ) → joinOf k s n < 256 ^ k
 unfolding joinOf
 join-lt zero s b n = omega arith
 join-lt (suc k) s b n =

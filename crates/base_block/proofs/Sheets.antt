@@ -11,7 +11,8 @@ use lib.Seq.{getD-set-same, getD-set-other}
 use Rattle.words.specs.Words.{byteAt}
 use Rattle.words.proofs.Little.{Bytes}
 use Rattle.base_block.specs.Checksum.{xorOf}
-use Rattle.base_block.specs.Columns.{columnOf, joinOf, Written, LaidOut, Folded}
+use Rattle.base_block.specs.Columns.{columnOf, joinOf}
+use Rattle.base_block.specs.Sheets.{Written, LaidOut, Folded}
 use Rattle.base_block.proofs.Xor.{xor-assoc, xor-four}
 use Rattle.base_block.proofs.Columns.{words-by-columns}
 

@@ -1,5 +1,5 @@
 -- The checksum by columns. Document 02, order 3: "four byte columns, each folded by itself and joined at the end".
-use Prim.Native.Nat.{ℕ, zero, suc, _+_, _*_, _^_, _≤_, _<_}
+use Prim.Native.Nat.{ℕ, zero, suc, _+_, _*_, _^_}
 use mathlib.Core.Path.{_≡_}
 use mathlib.Core.List.{List}
 use lib.Bits.{bitXor}
@@ -27,18 +27,3 @@ pub record ByColumns (s : List ℕ) : Type 0 where
   pub words : (n : ℕ) → xorOf s n ≡ joinOf 4 s n
   pub checksum : (x : ℕ) → sumPaper (sum.Sum x) ≡ checksumOf s → x ≡ mended (joinOf 4 s 127)
   pub computed : (b : BaseBlock) → blockPaper (block.Block b) ≡ blockOf s → b .«computed_checksum» ≡ mended (joinOf 4 s 127)
-
--- ---- the sheet on which the code folds them: rows of four bytes
-
--- its first n bytes are written by a rule, and the others are as they were
-pub record Written (n : ℕ) (rule : ℕ → ℕ) (old new : List ℕ) : Type 0 where
-  pub first : (i : ℕ) → i < n → byteAt new i ≡ rule i
-  pub rest : (i : ℕ) → n ≤ i → byteAt new i ≡ byteAt old i
-
--- the first 508 bytes of s are copied
-abbrev pub LaidOut : List ℕ → List ℕ → List ℕ → Type 0
-LaidOut s old new = Written 508 (byteAt s) old new
-
--- the first m rows have the next m laid upon them
-abbrev pub Folded : ℕ → List ℕ → List ℕ → Type 0
-Folded m old new = Written (4 * m) (λ (i : ℕ). bitXor (byteAt old i) (byteAt old (4 * m + i))) old new

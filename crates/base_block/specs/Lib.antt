@@ -2,3 +2,4 @@ pub mod Checksum
 pub mod Block
 pub mod Answers
 pub mod Columns
+pub mod Sheets

@@ -6,7 +6,7 @@ ghost use Rattle.words.specs.Parts.{Part};
 ghost use Rattle.base_block.specs.Checksum.{xorOf, mended, checksumOf};
 ghost use Rattle.base_block.specs.Block.{typeOf, formatOf, fieldsOf, headFault, blockOf, partOf, partAt};
 ghost use Rattle.base_block.specs.Answers.{sumPaper, blockPaper};
-ghost use Rattle.base_block.specs.Columns.{LaidOut, Folded};
+ghost use Rattle.base_block.specs.Sheets.{LaidOut, Folded};
 use words::Refusal;
 
 pub enum Checksum {

@@ -4,12 +4,6 @@ use native.Mathlib.Omega.{arith}
 use Rattle.words.specs.Words.{byteAt}
 use Rattle.base_block.proofs.Sheets.{Filling, filling-start, filling-more, filling-done}
 use borrow.Author.Needs.{needs}
-use Prim.Native.Nat.{ℕ, _+_, _≤_, _-_}
-use mathlib.Core.Path.{_≡_}
-use lib.ListN.{length}
-use lib.Bits.{bitXor}
-use Rattle.words.specs.Words.{byteAt}
-use Rattle.base_block.specs.Columns.{Written}
 use Rattle.base_block.proofs.lay_out.Statement.{statement}
 use Rattle.base_block.proofs.lay_out.Tie as tie
 use Rattle.base_block.proofs.lay_out.Reads as reads

@@ -6,12 +6,13 @@ use Prim.Native.Nat.{ℕ, _^_, _≤_, _<_}
 use native.Mathlib.Omega.{arith}
 use lib.Dec.{eqb}
 use borrow.Author.Tests.{eqb-false}
-use Rattle.words.proofs.Little.{Bytes}
+use Rattle.words.proofs.Little.{Bytes, little-lt}
 use Rattle.base_block.specs.Checksum.{xorOf, mended, sumOf}
-use Rattle.base_block.proofs.Columns.{join-lt, words-by-columns}
+use Rattle.base_block.specs.Columns.{rowOf}
+use Rattle.base_block.proofs.Columns.{row-bytes, words-by-columns}
 
 xor-range : (s : List ℕ) → Bytes s → (n : ℕ) → xorOf s n < 2 ^ 32
-xor-range s b n = rw (words-by-columns s b n) (join-lt 4 s b n)
+xor-range s b n = rw (words-by-columns s b n) (little-lt 4 (rowOf s n) (row-bytes s b n) 0)
 
 abbrev Between : ℕ → Type 0
 Between x = (1 ≤ x) × (x ≤ 0xFFFF_FFFE)

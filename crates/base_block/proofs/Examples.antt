@@ -3,11 +3,11 @@ use mathlib.Core.Path.{_≡_, refl}
 use Prim.Native.Nat.{ℕ}
 use mathlib.Core.List.{List, [], _∷_}
 use lib.ListN.{replicate}
-use Rattle.words.specs.Words.{little}
+use Rattle.words.specs.Words.{little, word32}
 use Rattle.words.specs.Refusals.{SHORT}
 use Rattle.words.specs.Paper.{success, refused, by}
 use Rattle.base_block.specs.Checksum.{xorOf, mended, sumOf, checksumOf}
-use Rattle.base_block.specs.Columns.{columnOf, joinOf}
+use Rattle.base_block.specs.Columns.{columnOf, rowOf}
 
 pub record Examples : Type 0 where
   pub zeros : checksumOf (replicate 508 0) ≡ success 1
@@ -32,18 +32,14 @@ header =
     0x01 ∷ 0x00 ∷ 0x00 ∷ 0x00 ∷ 0x20 ∷ 0x00 ∷ 0x00 ∷ 0x00 ∷ 0x00 ∷ 0x10 ∷ 0x00 ∷ 0x00 ∷ 0x01 ∷ 0x00 ∷ 0x00 ∷ 0x00 ∷
     replicate 460 0
 
--- the row that is left when each column of n rows is folded
-abbrev pub row : List ℕ → ℕ → List ℕ
-row s n = columnOf s 0 n ∷ columnOf s 1 n ∷ columnOf s 2 n ∷ columnOf s 3 n ∷ []
-
 pub record Followed : Type 0 where
-  pub twelve-row : row twelve 3 ≡ 0x5D ∷ 0x75 ∷ 0x67 ∷ 0xE7 ∷ []
-  pub twelve-joined : joinOf 4 twelve 3 ≡ 0xE767_755D
+  pub twelve-row : rowOf twelve 3 ≡ 0x5D ∷ 0x75 ∷ 0x67 ∷ 0xE7 ∷ []
+  pub twelve-joined : word32 (rowOf twelve 3) 0 ≡ 0xE767_755D
   pub twelve-words : xorOf twelve 3 ≡ 0xE767_755D
-  pub header-row : row header 127 ≡ 0x56 ∷ 0x75 ∷ 0x67 ∷ 0x66 ∷ []
-  pub header-joined : joinOf 4 header 127 ≡ 0x6667_7556
+  pub header-row : rowOf header 127 ≡ 0x56 ∷ 0x75 ∷ 0x67 ∷ 0x66 ∷ []
+  pub header-joined : word32 (rowOf header 127) 0 ≡ 0x6667_7556
   pub header-sum : checksumOf header ≡ success 0x6667_7556
 
 pub followed : Followed
-unfolding checksumOf sumOf mended xorOf little columnOf joinOf
+unfolding checksumOf sumOf mended xorOf little columnOf
 followed = record { twelve-row = refl; twelve-joined = refl; twelve-words = refl; header-row = refl; header-joined = refl; header-sum = refl }

@@ -2,19 +2,19 @@
 use mathlib.Core.Path.{_≡_, refl, sym, ap, ap₂, _∙_}
 use mathlib.Core.List.{List}
 use Prim.Native.Nat.{ℕ, zero, suc, _+_, _*_, _≤_, _<_}
-use native.Mathlib.Nat.{add-zero, add-suc}
+use native.Mathlib.Nat.{add-zero, zero-add, add-suc}
 use native.Mathlib.Decide.{decLe}
 use native.Mathlib.Omega.{arith}
 use lib.Bits.{bitXor, xor-zero-r}
 use lib.ListN.{length, set, replicate, length-set, getD-replicate}
 use lib.Seq.{getD-set-same, getD-set-other}
 use Rattle.words.specs.Words.{byteAt}
-use Rattle.words.proofs.Little.{Bytes}
+use Rattle.words.proofs.Little.{Bytes, little-4, little-same}
 use Rattle.base_block.specs.Checksum.{xorOf}
-use Rattle.base_block.specs.Columns.{columnOf, joinOf}
+use Rattle.base_block.specs.Columns.{columnOf, rowOf}
 use Rattle.base_block.specs.Sheets.{Written, LaidOut, Folded}
 use Rattle.base_block.proofs.Xor.{xor-assoc, xor-four}
-use Rattle.base_block.proofs.Columns.{words-by-columns}
+use Rattle.base_block.proofs.Columns.{row-at, words-by-columns}
 
 -- a loop that writes the first n bytes has written the first i
 pub record Filling (n : ℕ) (rule : ℕ → ℕ) (old new : List ℕ) (i : ℕ) : Type 0 where
@@ -53,7 +53,7 @@ column-same s t c (suc n) h = ap₂ bitXor (column-same s t c n (λ i k. h i (om
 -- a column is its upper rows and its lower ones
 column-split : (s : List ℕ) (c m n : ℕ) → columnOf s c (m + n) ≡ bitXor (columnOf s c m) (columnOf s (4 * m + c) n)
 unfolding columnOf
-column-split s c m zero = rw (add-zero) (sym (xor-zero-r (columnOf s c m)))
+column-split s c m zero = rw add-zero (sym (xor-zero-r (columnOf s c m)))
 column-split s c m (suc n) =
     rw (add-suc m n)
     (ap₂ bitXor (column-split s c m n) (ap (byteAt s) (omega arith))
@@ -82,9 +82,12 @@ laid-columns s t w c h =
     ap₂ bitXor (column-same t s c 127 (λ i k. w .first (4 * i + c) (omega arith))) (w .rest (508 + c) (omega arith) ∙ getD-replicate 512 (508 + c) 0 0 (omega arith))
     ∙ xor-zero-r (columnOf s c 127)
 
--- the row that is left, joined
+-- where one row is left with these columns, its word is the XOR of the words
 pub row-joined :
     (s t : List ℕ) → Bytes s → (n : ℕ) → ((c : ℕ) → c < 4 → columnOf t c 1 ≡ columnOf s c n)
     → byteAt t 0 + 256 * byteAt t 1 + 65536 * byteAt t 2 + 16777216 * byteAt t 3 ≡ xorOf s n
-unfolding joinOf columnOf
-row-joined s t b n k = omega (arith, words-by-columns s b n, k 0 (omega arith), k 1 (omega arith), k 2 (omega arith), k 3 (omega arith))
+unfolding columnOf
+row-joined s t b n k =
+    sym (little-4 t 0)
+    ∙ little-same 4 t (rowOf s n) 0 0 (λ c h. k c h ∙ sym (row-at s n c h) ∙ ap (byteAt (rowOf s n)) (sym (zero-add c)))
+    ∙ sym (words-by-columns s b n)

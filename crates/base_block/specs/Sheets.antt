@@ -14,6 +14,10 @@ pub record Written (n : ℕ) (rule : ℕ → ℕ) (old new : List ℕ) : Type 0 
 abbrev pub LaidOut : List ℕ → List ℕ → List ℕ → Type 0
 LaidOut s old new = Written 508 (byteAt s) old new
 
+-- byte i with the byte that stands n behind it laid upon it
+abbrev pub laid : List ℕ → ℕ → ℕ → ℕ
+laid s n i = bitXor (byteAt s i) (byteAt s (n + i))
+
 -- the first m rows have the next m laid upon them
 abbrev pub Folded : ℕ → List ℕ → List ℕ → Type 0
-Folded m old new = Written (4 * m) (λ (i : ℕ). bitXor (byteAt old i) (byteAt old (4 * m + i))) old new
+Folded m old new = Written (4 * m) (laid old (4 * m)) old new

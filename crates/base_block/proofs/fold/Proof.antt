@@ -1,9 +1,9 @@
 use borrow.Author.Needs.{needs}
-use Prim.Native.Nat.{ℕ, _+_, _-_}
+use Prim.Native.Nat.{_-_}
 use mathlib.Core.Path.{ap₂}
 use native.Mathlib.Omega.{arith}
 use lib.Bits.{bitXor}
-use Rattle.words.specs.Words.{byteAt}
+use Rattle.base_block.specs.Sheets.{laid}
 use Rattle.base_block.proofs.Sheets.{Filling, filling-start, filling-more, filling-done}
 use Rattle.base_block.proofs.fold.Statement.{statement}
 use Rattle.base_block.proofs.fold.Tie as tie
@@ -11,7 +11,7 @@ use Rattle.base_block.proofs.fold.Reads as reads
 use Rattle.base_block.proofs.fold.Lts as lts
 
 abbrev Inv-loop : tie.InvT-loop
-Inv-loop sheet₀ rows half i₀ sheet i = Filling half (λ (j : ℕ). bitXor (byteAt sheet₀ j) (byteAt sheet₀ (half + j))) sheet₀ sheet i
+Inv-loop sheet₀ rows half i₀ sheet i = Filling half (laid sheet₀ half) sheet₀ sheet i
 
 abbrev μ-loop : tie.MeasureT-loop
 μ-loop sheet₀ rows half i₀ sheet i = half - i

@@ -3,6 +3,8 @@ pub mod Signs
 pub mod Rows
 pub mod Sums
 pub mod Pieces
+pub mod Steps
+pub mod Stepping
 pub mod Image
 pub mod Totals
 pub mod Papers

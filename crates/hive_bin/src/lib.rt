@@ -1,10 +1,12 @@
-// Bins and cells: the bins of a hive checked, each with its cells, and totalled.
+// Bins and cells: the bins of a hive checked, each with its cells, and totalled; and a step from cell to cell of them.
 ghost use mathlib.Core.Path.{_≡_};
-ghost use Prim.Native.Nat.{_+_, _≤_};
+ghost use Prim.Native.Nat.{_+_, _-_, _≤_};
 ghost use lib.ListN.{length};
 ghost use Rattle.hive_bin.specs.Walk.{row, cellRow, cellSize, binSize, binsIn};
 ghost use Rattle.hive_bin.specs.Totals.{noTotals, oneBin, cellTotals, together, Room, answerOf, binsOf};
 ghost use Rattle.hive_bin.specs.Answers.{binsPaper};
+ghost use Rattle.hive_bin.specs.Steps.{nextOf, leftIn, cellIn, atEnd, stepAt, stepPaper};
+ghost use Rattle.words.specs.Paper.{refused, by};
 use words::Refusal;
 
 // How many bins there are, how many cells of each kind, and the bytes of these cells, their size words included.
@@ -18,6 +20,27 @@ pub struct BinTotals {
 
 pub enum BinsAnswer {
     Totals(BinTotals),
+    Refused(Refusal),
+}
+
+// Where a reader of cells stands: the start of a bin, and a place in it. The place of the bin's own start stands for its first cell;
+// where the bins end there, for their end. A reader begins at 0, 0.
+pub struct Spot {
+    pub bin: usize,
+    pub place: usize,
+}
+
+// A cell: its place, its size word, which is negative where it is allocated, and where the next one stands.
+pub struct CellStep {
+    pub place: usize,
+    pub size: i32,
+    pub next: Spot,
+}
+
+// A cell, that none is left, or why there is none.
+pub enum Step {
+    Cell(CellStep),
+    End,
     Refused(Refusal),
 }
 
@@ -206,4 +229,102 @@ pub fn check_bins(image: &[u8], base: u32, size: u32) -> BinsAnswer
             })
         }
     }
+}
+
+// A step that is refused, at a place.
+fn no_step(number: u32, place: usize) -> Step
+    ensures { λ r. ⌜ stepPaper r ≡ refused (by number place) ⌝ }
+{
+    Step::Refused(Refusal {
+        number,
+        position: place,
+    })
+}
+
+// The next place, behind a cell that ends at a place of a bin, which is `over` at another.
+fn next_of(bin: usize, over: usize, place: usize) -> Spot
+    ensures { λ r. ⌜ r ≡ nextOf bin over place ⌝ }
+{
+    if place == over {
+        return Spot {
+            bin: over,
+            place: over,
+        };
+    }
+    Spot { bin, place }
+}
+
+// The bytes for a cell at a place of a bin.
+fn left_in(bin: usize, over: usize, place: usize) -> usize
+    requires { ⌜ bin + 32 ≤ over ⌝ }
+    ensures { λ r. ⌜ r ≡ leftIn bin over place ⌝ }
+{
+    if place < bin + HEADER {
+        return 0;
+    }
+    if over < place {
+        return 0;
+    }
+    over - place
+}
+
+// The cell at a place of a bin.
+fn cell_in(bins: &[u8], bin: usize, over: usize, place: usize) -> Step
+    requires { ⌜ bin + 32 ≤ over ⌝ }
+    ensures { λ r. ⌜ stepPaper r ≡ cellIn (now (bins .entry)) bin over place ⌝ }
+{
+    let word = words::i32_at(bins, place);
+    let left = left_in(bin, over, place);
+    let size = cell_size(word, left);
+    if size == 0 {
+        return no_step(words::BAD_CELL, place);
+    }
+    let next = next_of(bin, over, place + size);
+    Step::Cell(CellStep {
+        place,
+        size: word,
+        next,
+    })
+}
+
+// Whether the bins end at a spot.
+fn at_end(bins: &[u8], spot: Spot) -> bool
+    ensures { λ r. ⌜ r ≡ atEnd (now (bins .entry)) spot ⌝ }
+{
+    if spot.place != spot.bin {
+        return false;
+    }
+    spot.bin == bins.len()
+}
+
+// The size of the bin at any place; 0 where none stands there.
+fn bin_size_at(bins: &[u8], bin: usize) -> usize
+    ensures { λ r. ⌜ r ≡ binSize (now (bins .entry)) bin (length (now (bins .entry)) - bin) ⌝ }
+{
+    if bins.len() < bin {
+        return 0;
+    }
+    let left = bins.len() - bin;
+    bin_size(bins, bin, left)
+}
+
+// One step of a reader of cells, from any spot of any bytes: the cell there and the next spot, the end, or the fault that the check
+// of these bytes gives there. Places count from their start.
+pub fn step_at(bins: &[u8], spot: Spot) -> Step
+    ensures { λ r. ⌜ stepPaper r ≡ stepAt (now (bins .entry)) spot ⌝ }
+{
+    let bin = spot.bin;
+    let ended = at_end(bins, spot);
+    if ended {
+        return Step::End;
+    }
+    let size = bin_size_at(bins, bin);
+    if size == 0 {
+        return no_step(words::BAD_BIN, bin);
+    }
+    let over = bin + size;
+    if spot.place == bin {
+        return cell_in(bins, bin, over, bin + HEADER);
+    }
+    cell_in(bins, bin, over, spot.place)
 }

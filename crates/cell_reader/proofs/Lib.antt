@@ -1,0 +1,2 @@
+-- What the three walks share.
+mod Lent

@@ -7,7 +7,8 @@ use native.Mathlib.Decide.{ℕ-discrete}
 use native.Mathlib.Numerals.{add-one}
 use native.Mathlib.Omega.{arith}
 use lib.ListN.{length, getD, set, drop, length-append, List·getD-append}
-use lib.Seq.{drop-cons, set-at, getD-at, append-snoc}
+use lib.Seq.{getD-at}
+use Rattle.words.proofs.Buffers.{written-more}
 use Rattle.cell_key_node.specs.ValueList.{upTo}
 
 pub up-length : (f : ℕ → ℕ) (n : ℕ) → length (upTo f n) ≡ n
@@ -22,10 +23,7 @@ filled-none f d = refl
 pub filled-more : (f : ℕ → ℕ) (n : ℕ) (d : List ℕ) → n < length d → set (upTo f n ++ drop n d) n (f n) ≡ upTo f (n + 1) ++ drop (n + 1) d
 unfolding upTo
 filled-more f n d h =
-    rw add-one
-    (ap (λ (t : List ℕ). set (upTo f n ++ t) n (f n)) (drop-cons d n 0 h)
-    ∙ set-at (upTo f n) (getD d n 0) (drop (suc n) d) (f n) n (up-length f n)
-    ∙ sym (append-snoc (upTo f n) (f n) (drop (suc n) d)))
+    written-more (upTo f n) d n (f n) (up-length f n) h ∙ ap (λ (m : ℕ). upTo f m ++ drop (n + 1) d) (sym (add-one n))
 
 pub up-at : (f : ℕ → ℕ) (n i : ℕ) → i < n → getD (upTo f n) i 0 ≡ f i
 unfolding upTo

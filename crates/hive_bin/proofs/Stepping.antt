@@ -11,12 +11,13 @@ use lib.IntN.{natAbs}
 use borrow.Author.Tests.{eqb-true, eqb-false, eq-eqb, ne-eqb}
 use Rattle.words.specs.Refusals.{BAD-BIN, BAD-CELL}
 use Rattle.words.specs.Words.{word32}
-use Rattle.words.specs.Paper.{Paper, Told, success, refused, by, told, onSuccess}
+use Rattle.words.specs.Paper.{Paper, success, refused, by, onSuccess}
+use Rattle.words.proofs.Papers.{refused-success, same-success, on-success-of}
 use Rattle.hive_bin.specs.declared.Spot.{Spot}
 use Rattle.hive_bin.specs.declared.Step.{Step}
 use Rattle.hive_bin.specs.declared.Step.the-variants.{Cell, End, Refused}
 use Rattle.hive_bin.specs.Walk.{Found, Walk, found, fault, join, row, sizeWord, goodCell, cellRow, goodBin, binRow, binsIn}
-use Rattle.hive_bin.specs.Steps.{spot, start, Stepped, cell, end, nextOf, leftIn, cellIn, placeOf, atEnd, stepAt, stepPaper, cellsOf, andOn, cellsBy, Keeps, TellsAll}
+use Rattle.hive_bin.specs.Steps.{spot, start, Stepped, cell, end, nextOf, leftIn, cellIn, placeOf, atEnd, stepAt, stepPaper, cellsOf, andOn, cellsBy, Keeps, TellsAll, places, Rising}
 use Rattle.hive_bin.proofs.Rows.{row-end, row-bad, row-more}
 use Rattle.hive_bin.proofs.Pieces.{cell-facts, cells-sound, bin-facts, bins-sound}
 use Rattle.hive_bin.proofs.Steps.{behind-header, next-bin, next-cell, at-start, not-at-start}
@@ -78,7 +79,7 @@ pub record Tells (b : List ℕ) (left : Paper (List Found)) (at : ℕ) (c : Foun
 abbrev pub Says : List ℕ → Paper (List Found) → ℕ → Paper Stepped → Type 0
 Says b left at (success (cell c t)) = Tells b left at c t
 Says b left at (success end) = left ≡ success []
-Says b left at (refused f) = left ≡ refused f
+Says b left at (refused f) = (left ≡ refused f) × (f .position ≤ length b)
 
 earlier : (b : List ℕ) (left : Paper (List Found)) (at from : ℕ) → at ≤ from → (a : Paper Stepped) → Says b left from a → Says b left at a
 earlier b left at from h (success (cell c t)) k = record { from = omega (arith, k .from); on = k .on; stands = k .stands; whole = k .whole }
@@ -149,8 +150,11 @@ module _ (b : List ℕ) (bin over : ℕ) (good : goodBin b bin (length b - bin) 
                 ∙ ap (onSuccess (λ (cs : List Found). c ∷ cs)) (next-rest (place + n) (omega arith));
           }
       go false e =
-          ap (λ (w : Walk). cellsOf (join w (row (binRow b) over (length b - over)))) (row-bad (cellRow b) (cells-sound b) place (over - place) (omega arith) e)
-          ∙ cells-fault BAD-CELL place _
+          let k = over-in in (
+            ap (λ (w : Walk). cellsOf (join w (row (binRow b) over (length b - over)))) (row-bad (cellRow b) (cells-sound b) place (over - place) (omega arith) e)
+                ∙ cells-fault BAD-CELL place _,
+            omega arith,
+          )
 
   -- at the bin's start its first cell is left, and what follows it
   bin-rest : cellsOf (row (binRow b) bin (length b - bin)) ≡ cellsOf (inBin b over (bin + 32))
@@ -198,7 +202,7 @@ module _ (b : List ℕ) (s : Spot) where
           (earlier b _ (s .place) (s .bin + 32) (omega arith) (cellIn b (s .bin) over (s .bin + 32)) (cell-says b (s .bin) over hg refl (s .bin + 32) (omega arith) (k .0))))
       go false false hz hg =
           let f = eqb-false (s .bin) (length b) hz in
-          ap cellsOf (row-bad (binRow b) (bins-sound b) (s .bin) (length b - s .bin) (omega arith) hg)
+          (ap cellsOf (row-bad (binRow b) (bins-sound b) (s .bin) (length b - s .bin) (omega arith) hg), l)
 
   inside-says : goodBin b (s .bin) (length b - s .bin) ≡ true → s .bin + 32 ≤ s .place → s .place < s .bin + word32 b (s .bin + 8)
       → Says b (rest b s) (s .place) (stepAt b s)
@@ -216,6 +220,34 @@ pub rest-all : (b : List ℕ) → rest b start ≡ cellsOf (binsIn b)
 unfolding binsIn
 rest-all b = rest-start b start refl ∙ ap (λ (n : ℕ). cellsOf (row (binRow b) 0 n)) (omega arith)
 
+-- ---- the cells' places rise
+
+head-is : {A : Type 0} {x y : A} {xs ys : List A} → x ∷ xs ≡ y ∷ ys → (x ≡ y) × (xs ≡ ys)
+head-is e = (cc, cc)
+
+rising-later : (at from : ℕ) (ps : List ℕ) → at ≤ from → Rising from ps → Rising at ps
+rising-later at from [] h k = tt
+rising-later at from (p ∷ ps) h k = (omega arith, k .1)
+
+module _ (b : List ℕ) where
+  cells-rise : (cs : List Found) (s : Spot) → Stands b s → rest b s ≡ success cs → Rising (s .place) (places cs)
+  cells-rise [] s h e = tt
+  cells-rise (c ∷ cs) s h e = go (stepAt b s) (step-says b s h) (λ t k f. cells-rise cs t k f)
+    where
+      go : (a : Paper Stepped) → Says b (rest b s) (s .place) a → ((t : Spot) → Stands b t → rest b t ≡ success cs → Rising (t .place) (places cs))
+          → (s .place ≤ c .place) × Rising (suc (c .place)) (places cs)
+      go (success (cell d t)) k on =
+          let x = on-success-of _ (rest b t) (sym (k .whole) ∙ e) in
+          let y = head-is (x .2) in
+          let z : d .place ≡ c .place = ap (λ (f : Found). f .place) (y .0) in
+          (omega (arith, k .from), rising-later (suc (c .place)) (t .place) (places cs) (omega (arith, k .on)) (on t (k .stands) (x .1 ∙ ap success (y .1))))
+      go (success end) k on = absurd (let y = same-success (sym k ∙ e) in let z : _≡_ {A = ℕ} 0 1 = cc in omega arith)
+      go (refused f) k on = absurd (refused-success (sym (k .0) ∙ e))
+
+  -- those of the bins, from the start on
+  pub rising : (cs : List Found) → cellsOf (binsIn b) ≡ success cs → Rising 0 (places cs)
+  rising cs e = cells-rise cs start (stands-start b) (rest-all b ∙ e)
+
 -- ---- from a spot to the end
 
 module _ (b : List ℕ) (step : Spot → Step) (keeps : Keeps b step) where
@@ -226,7 +258,7 @@ module _ (b : List ℕ) (step : Spot → Step) (keeps : Keeps b step) where
       let l : s .place < c .next .place = omega (arith, k .from, k .on) in
       ap (onSuccess (λ (cs : List Found). record { place = c .place; size = c .size } ∷ cs)) (go (c .next) (k .stands) l) ∙ sym (k .whole)
   on-from s on End k go = sym k
-  on-from s on (Refused f) k go = sym k
+  on-from s on (Refused f) k go = sym (k .0)
 
   says-answer : (s : Spot) → Stands b s → Says b (rest b s) (s .place) (stepPaper (step s))
   says-answer s h =

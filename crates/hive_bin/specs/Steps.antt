@@ -1,8 +1,9 @@
 -- Document 02, order 4: "a reader that stands on one cell of the lent bins and tells the cell and the next place". All is said of the
 -- bins' own bytes, as in Walk.antt.
+use Prim.{Unit}
 use Prim.Native.Nat.{ℕ, zero, suc, _+_, _-_, _≤_}
 use mathlib.Core.Path.{_≡_}
-use mathlib.Core.List.{List, [], _∷_}
+use mathlib.Core.List.{List, [], _∷_, map}
 use mathlib.Core.Bool.{Bool, cond, _&&_}
 use lib.ListN.{length}
 use lib.Dec.{ltb, eqb}
@@ -92,3 +93,13 @@ Keeps b step = (s : Spot) → s .bin ≤ length b → s .place ≤ length b → 
 -- there are bytes, and one for the end. Proved as `tells-all` in proofs/Stepping.antt.
 abbrev pub TellsAll : List ℕ → (Spot → Step) → Type 0
 TellsAll b step = cellsBy step (length b) start ≡ cellsOf (binsIn b)
+
+-- ---- the cells' places
+
+abbrev pub places : List Found → List ℕ
+places cs = map (λ (c : Found). c .place) cs
+
+-- numbers that rise: the first is no lower than `at`, and each is higher than the one before it, so that each stands once
+abbrev pub Rising : ℕ → List ℕ → Type 0
+Rising at [] = Unit {0}
+Rising at (p ∷ ps) = (at ≤ p) × Rising (suc p) ps

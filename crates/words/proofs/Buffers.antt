@@ -1,11 +1,13 @@
 -- Laws of answers that come with a lent buffer. Assumes nothing.
 use mathlib.Core.Path.{_≡_, refl, ap, sym, _∙_}
-use mathlib.Core.List.{List, _++_}
+use mathlib.Core.List.{List, [], _∷_, _++_}
 use mathlib.Core.Bool.{Bool, true, false, cond}
-use Prim.Native.Nat.{ℕ, _≤_, _<_}
+use Prim.Native.Nat.{ℕ, suc, _+_, _≤_, _<_}
+use native.Mathlib.Numerals.{add-one}
 use borrow.Author.Tests.{lt-ltb, le-ltb, ltb-true, ltb-false}
 use lib.Dec.{ltb}
-use lib.ListN.{length, drop}
+use lib.ListN.{length, getD, set, drop}
+use lib.Seq.{drop-cons, set-at, append-snoc}
 use Rattle.words.specs.Refusals.{NO-ROOM}
 use Rattle.words.specs.Paper.{Told, Paper, success, refused}
 use Rattle.words.specs.Buffers.{inRoom, bufferAfter, Answered}
@@ -94,3 +96,11 @@ module _ {A B : Type 0} {said right : Paper A} {ks old : List B} where
 pub determined : {A B : Type 0} {said said′ right : Paper A} {ks old new new′ : List B}
     → Answered said right ks old new → Answered said′ right ks old new′ → (said ≡ said′) × (new ≡ new′)
 determined x y = (x .answer ∙ sym (y .answer), x .buffer ∙ sym (y .buffer))
+
+-- a row that is written from the first place on: its next number goes into the next place
+pub written-more : (ks d : List ℕ) (n v : ℕ) → length ks ≡ n → n < length d → set (ks ++ drop n d) n v ≡ (ks ++ (v ∷ [])) ++ drop (n + 1) d
+written-more ks d n v e h =
+    rw add-one
+    (ap (λ (t : List ℕ). set (ks ++ t) n v) (drop-cons d n 0 h)
+    ∙ set-at ks (getD d n 0) (drop (suc n) d) v n e
+    ∙ sym (append-snoc ks v (drop (suc n) d)))

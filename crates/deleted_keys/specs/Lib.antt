@@ -1,2 +1,3 @@
 pub mod Deleted
 pub mod Scan
+pub mod Whole

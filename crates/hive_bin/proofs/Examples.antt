@@ -8,6 +8,7 @@ use Rattle.words.specs.Words.{little, word32, signed}
 use Rattle.words.specs.Refusals.{CUT-SHORT, BAD-BIN, BAD-CELL}
 use Rattle.words.specs.Paper.{success, refused, by}
 use Rattle.hive_bin.specs.Walk.{found, join, rowGo, row, goodCell, cellRow, hbin, goodBin, binRow, binsIn, shift, binsAt}
+use Rattle.hive_bin.specs.Steps.{spot, start, cell, end, nextOf, leftIn, cellIn, atEnd, stepAt}
 use Rattle.hive_bin.specs.Totals.{negative, allocatedOne, freeOne, allocatedSize, freeSize, sumOver, answerOf, binsOf}
 
 -- the four bytes of a word below 65,536, and of one from -256 to -1
@@ -79,3 +80,41 @@ short-rest = refl
 pub four-bytes : binsOf (head 0 ++ below 4 ++ replicate 4060 0) 0 4096 ≡ refused (by BAD-CELL 32)
 unfolding binsOf binsAt shift binsIn row rowGo binRow goodBin cellRow goodCell join little signed answerOf
 four-bytes = refl
+
+-- ---- steps over these bins: the first cell; the last, behind which no bin follows; the end
+pub first-step : stepAt listing start ≡ success (cell (record { place = 32; size = negsuc 87 }) (spot 0 120))
+unfolding stepAt atEnd cellIn leftIn nextOf goodBin goodCell little signed
+first-step = refl
+
+pub last-step : stepAt listing (spot 0 320) ≡ success (cell (record { place = 320; size = pos 3776 }) (spot 4096 4096))
+unfolding stepAt atEnd cellIn leftIn nextOf goodBin goodCell little signed
+last-step = refl
+
+pub no-further : stepAt listing (spot 4096 4096) ≡ success end
+unfolding stepAt atEnd
+no-further = refl
+
+-- from spots that no step leads to: in the header, within a cell, at the bin's end, and where no bin stands
+pub in-the-header : stepAt listing (spot 0 16) ≡ refused (by BAD-CELL 16)
+unfolding stepAt atEnd cellIn leftIn goodBin goodCell little signed
+in-the-header = refl
+
+pub within-a-cell : stepAt listing (spot 0 40) ≡ refused (by BAD-CELL 40)
+unfolding stepAt atEnd cellIn leftIn goodBin goodCell little signed
+within-a-cell = refl
+
+pub at-the-bins-end : stepAt listing (spot 0 4096) ≡ refused (by BAD-CELL 4096)
+unfolding stepAt atEnd cellIn leftIn goodBin goodCell little signed
+at-the-bins-end = refl
+
+pub no-bin-there : stepAt listing (spot 8 40) ≡ refused (by BAD-BIN 8)
+unfolding stepAt atEnd goodBin little
+no-bin-there = refl
+
+-- a second bin: behind the last cell of the first stands its header, which is none of its cells
+abbrev two : List ℕ
+two = head 0 ++ small 224 15 ++ replicate 4060 0 ++ (104 ∷ 98 ∷ 105 ∷ 110 ∷ []) ++ small 0 16 ++ small 0 16 ++ replicate 20 0 ++ small 224 15 ++ replicate 4060 0
+
+pub over-the-header : stepAt two (spot 4096 4096) ≡ success (cell (record { place = 4128; size = pos 4064 }) (spot 8192 8192))
+unfolding stepAt atEnd cellIn leftIn nextOf goodBin goodCell little signed
+over-the-header = refl

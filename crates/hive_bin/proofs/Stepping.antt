@@ -225,7 +225,7 @@ rest-all b = rest-start b start refl ∙ ap (λ (n : ℕ). cellsOf (row (binRow 
 head-is : {A : Type 0} {x y : A} {xs ys : List A} → x ∷ xs ≡ y ∷ ys → (x ≡ y) × (xs ≡ ys)
 head-is e = (cc, cc)
 
-rising-later : (at from : ℕ) (ps : List ℕ) → at ≤ from → Rising from ps → Rising at ps
+pub rising-later : (at from : ℕ) (ps : List ℕ) → at ≤ from → Rising from ps → Rising at ps
 rising-later at from [] h k = tt
 rising-later at from (p ∷ ps) h k = (omega arith, k .1)
 

@@ -12,12 +12,13 @@ use borrow.Author.Tests.{ltb-true, ltb-false, eq-eqb, ne-eqb, lt-ltb, le-ltb}
 use Rattle.words.specs.Refusals.{BAD-BIN, BAD-CELL}
 use Rattle.words.specs.Words.{word32}
 use Rattle.words.specs.Paper.{Paper, success, refused, by}
+use Rattle.words.proofs.Papers.{refused-success, same-success}
 use Rattle.words.proofs.Signed.{read, held as read-held}
 use Rattle.hive_bin.specs.declared.Spot.{Spot}
 use Rattle.hive_bin.specs.Walk.{Found, sizeWord, goodCell, cellRow, goodBin, binRow, cellSize, binSize}
-use Rattle.hive_bin.specs.Steps.{spot, Stepped, cell, end, nextOf, leftIn, cellIn, placeOf, atEnd, stepAt}
+use Rattle.hive_bin.specs.Steps.{spot, Stepped, cell, end, nextOf, leftIn, cellIn, placeOf, atEnd, stepAt, InBin}
 use Rattle.hive_bin.proofs.Rows.{no-size, some-size}
-use Rattle.hive_bin.proofs.Pieces.{cells-sound, bins-sound, cell-size-held, bin-facts, no-bin, bin-size-held, bin-told}
+use Rattle.hive_bin.proofs.Pieces.{cell-facts, cells-sound, bins-sound, cell-size-held, bin-facts, no-bin, bin-size-held, bin-told}
 
 -- ---- the next place, and the bytes for a cell
 
@@ -110,3 +111,43 @@ module _ (b : List ℕ) (s : Spot) where
 -- no bin stands past the bins
 pub past-bins : (b : List ℕ) (bin : ℕ) → length b < bin → 0 ≡ binSize b bin (length b - bin)
 past-bins b bin h = no-bin b bin (length b - bin) (λ e. let k = bin-facts b bin (length b - bin) e in omega arith)
+
+-- ---- a cell that is told from any spot
+
+pub same-cell : {c d : Found} {t u : Spot} → cell c t ≡ cell d u → (c ≡ d) × (t ≡ u)
+same-cell e = (cc, cc)
+
+pub cell-end : {c : Found} {t : Spot} → cell c t ≡ end → ⊥
+cell-end e = let z : _≡_ {A = ℕ} 0 1 = cc in omega arith
+
+module _ (b : List ℕ) (s : Spot) (c : Found) (t : Spot) where
+  abbrev over : ℕ
+  over = s .bin + word32 b (s .bin + 8)
+
+  pub told-in-bin : stepAt b s ≡ success (cell c t) → InBin b s c
+  unfolding stepAt cellIn
+  told-in-bin e = go (atEnd b s) (goodBin b (s .bin) (length b - s .bin)) refl e
+    where
+      at : ℕ
+      at = placeOf s
+
+      in-cell : (k : Bool) → goodBin b (s .bin) (length b - s .bin) ≡ true → goodCell (sizeWord b at) (leftIn (s .bin) over at) ≡ k
+          → cond k (success (cell (record { place = at; size = sizeWord b at }) (nextOf (s .bin) over (at + natAbs (sizeWord b at))))) (refused (by BAD-CELL at)) ≡ success (cell c t)
+          → InBin b s c
+      in-cell true g h f =
+          let k = cell-facts (sizeWord b at) (leftIn (s .bin) over at) h in
+          let l = left-fits (s .bin) over at (k .2) (k .0) in
+          record {
+            bin = g;
+            place = ap (λ (d : Found). d .place) (sym (same-cell (same-success f) .0));
+            word = ap (λ (d : Found). d .size) (sym (same-cell (same-success f) .0));
+            behind = l .0;
+            cell = subst (λ (n : ℕ). goodCell (sizeWord b at) n ≡ true) (sym (behind-header (s .bin) over at (l .0) refl)) h;
+          }
+      in-cell false g h f = absurd (refused-success f)
+
+      go : (z g : Bool) → goodBin b (s .bin) (length b - s .bin) ≡ g
+          → cond z (success end) (cond g (cellIn b (s .bin) over at) (refused (by BAD-BIN (s .bin)))) ≡ success (cell c t) → InBin b s c
+      go true g h f = absurd (cell-end (sym (same-success f)))
+      go false true h f = in-cell (goodCell (sizeWord b at) (leftIn (s .bin) over at)) h refl f
+      go false false h f = absurd (refused-success f)

@@ -1,6 +1,7 @@
 -- What holds of every answer to the bins of an image. Assumes nothing.
 use Prim.Native.Nat.{ℕ, _+_, _*_, _≤_, _<_}
 use mathlib.Core.Path.{_≡_, refl, sym, ap, subst, _∙_}
+use mathlib.Core.Logic.{_⊎_, inl, inr}
 use mathlib.Core.List.{List}
 use mathlib.Core.Bool.{Bool, true, false}
 use native.Mathlib.Omega.{arith}
@@ -30,12 +31,20 @@ module _ (s : List ℕ) (base size : ℕ) where
       → (base ≤ u .position) × (u .position < base + size) × ((BAD-BIN ≤ u .number) × (u .number ≤ BAD-CELL))
   within h u e = subst (Fills base size) e (image-fills s base size h)
 
-  pub never-outside : (u : Told) → binsOf s base size ≡ refused u → u .number ≡ OUTSIDE → ⊥
-  never-outside u e n = go (ltb (length s) (base + size)) refl
+  -- the numbers that are given: 8, 10 and 11
+  pub given : (u : Told) → binsOf s base size ≡ refused u → (u .number ≡ CUT-SHORT) ⊎ ((BAD-BIN ≤ u .number) × (u .number ≤ BAD-CELL))
+  given u e = go (ltb (length s) (base + size)) refl
     where
-      go : (b : Bool) → ltb (length s) (base + size) ≡ b → ⊥
-      go true t = let k = ap (λ (v : Told). v .number) (past (ltb-true _ _ t) u e) in omega arith
-      go false t = let k = within (ltb-false _ _ t) u e in omega arith
+      go : (b : Bool) → ltb (length s) (base + size) ≡ b → (u .number ≡ CUT-SHORT) ⊎ ((BAD-BIN ≤ u .number) × (u .number ≤ BAD-CELL))
+      go true t = inl (ap (λ (v : Told). v .number) (past (ltb-true _ _ t) u e))
+      go false t = inr (within (ltb-false _ _ t) u e .2)
+
+  pub never-outside : (u : Told) → binsOf s base size ≡ refused u → u .number ≡ OUTSIDE → ⊥
+  never-outside u e n = go (given u e)
+    where
+      go : (u .number ≡ CUT-SHORT) ⊎ ((BAD-BIN ≤ u .number) × (u .number ≤ BAD-CELL)) → ⊥
+      go (inl k) = omega arith
+      go (inr k) = omega arith
 
   success-fills : (t : BinTotals) → binsOf s base size ≡ success t → t .«allocated_bytes» + t .«free_bytes» + 32 * t .bins ≡ size
   success-fills t e = go (ltb (length s) (base + size)) refl

@@ -4,7 +4,7 @@ use Prim.{Unit}
 use Prim.Native.Nat.{ℕ, zero, suc, _+_, _-_, _≤_}
 use mathlib.Core.Path.{_≡_}
 use mathlib.Core.List.{List, [], _∷_, map}
-use mathlib.Core.Bool.{Bool, cond, _&&_}
+use mathlib.Core.Bool.{Bool, true, cond, _&&_}
 use lib.ListN.{length}
 use lib.Dec.{ltb, eqb}
 use lib.IntN.{natAbs}
@@ -66,6 +66,15 @@ abbrev pub stepPaper : Step → Paper Stepped
 stepPaper (Cell c) = success (cell (record { place = c .place; size = c .size }) (c .next))
 stepPaper End = success end
 stepPaper (Refused f) = refused (told f)
+
+-- A cell that is told from any spot, also one that no step led to, is a cell by document 01: it stands behind the header of a bin that
+-- checks and keeps to that bin. Proved as `told-in-bin` in proofs/Steps.antt.
+pub record InBin (b : List ℕ) (s : Spot) (c : Found) : Type 0 where
+  pub bin : goodBin b (s .bin) (length b - s .bin) ≡ true
+  pub place : c .place ≡ placeOf s
+  pub word : c .size ≡ sizeWord b (placeOf s)
+  pub behind : s .bin + 32 ≤ placeOf s
+  pub cell : goodCell (sizeWord b (placeOf s)) (s .bin + word32 b (s .bin + 8) - placeOf s) ≡ true
 
 -- ---- from the start to the end
 

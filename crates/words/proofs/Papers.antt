@@ -55,11 +55,16 @@ module _ {A B : Type 0} (f : A → B) {a : Paper A} where
   unfolding onSuccess
   on-refused e = rw e
 
--- and back: a success is told of a success
+-- and back: a success is told of a success, a refusal of that refusal
 pub on-success-of : {A B : Type 0} (f : A → B) (a : Paper A) {w : B} → onSuccess f a ≡ success w → (v : A) × (a ≡ success v) × (f v ≡ w)
 unfolding onSuccess
 on-success-of f (success v) e = (v, refl, same-success e)
 on-success-of f (refused t) e = absurd (refused-success e)
+
+pub on-refused-of : {A B : Type 0} (f : A → B) (a : Paper A) {t : Told} → onSuccess f a ≡ refused t → a ≡ refused t
+unfolding onSuccess
+on-refused-of f (success v) e = absurd (success-refused e)
+on-refused-of f (refused u) e = ap refused (same-told e)
 
 module _ {A : Type 0} (n p : ℕ) (v : A) where
   pub checked-good : n ≡ 0 → checked n p v ≡ success v

@@ -1,5 +1,5 @@
 -- Laws of one step of a reader of cells, by what the code has read. Assumes nothing.
-use Prim.Native.Nat.{ℕ, _+_, _-_, _^_, _≤_, _<_}
+use Prim.Native.Nat.{ℕ, _+_, _-_, _%_, _^_, _≤_, _<_}
 use mathlib.Core.Path.{_≡_, refl, sym, ap, subst, _∙_}
 use mathlib.Core.List.{List}
 use mathlib.Core.Bool.{Bool, true, false, cond}
@@ -59,19 +59,22 @@ module _ (b : List ℕ) (bin over place : ℕ) {z : ℤ} (held : mag z < 2 ^ 31)
       simp k
 
   module _ (h : 0 < n) where
-    told : (goodCell (sizeWord b place) left ≡ true) × (natAbs (sizeWord b place) ≡ n) × (n ≤ left)
+    read-cell : (goodCell (sizeWord b place) left ≡ true) × (natAbs (sizeWord b place) ≡ n) × (n ≤ left)
     unfolding cellRow
-    told = some-size (cellRow b) (cells-sound b) place left n (cell-size-held b place held word left size) h
+    read-cell = some-size (cellRow b) (cells-sound b) place left n (cell-size-held b place held word left size) h
 
-    pub cell-fits : place + n ≤ over
-    cell-fits = left-fits bin over place (subst (λ (m : ℕ). n ≤ m) room (told .2)) h .1
+    pub cell-fits : (8 ≤ n) × (place + n ≤ over)
+    cell-fits =
+        let k = cell-facts (sizeWord b place) left (read-cell .0) in
+        let m : n % 8 ≡ 0 = rw (read-cell .1) at (k .1) in
+        (omega arith, left-fits bin over place (subst (λ (m : ℕ). n ≤ m) room (read-cell .2)) h .1)
 
     pub a-cell-in : {s : Spot} → s ≡ nextOf bin over (place + n)
         → success (cell (record { place = place; size = read z }) s) ≡ cellIn b bin over place
     unfolding cellIn
     a-cell-in e =
-        let k : goodCell (sizeWord b place) (leftIn bin over place) ≡ true = rw room at (told .0) in
-        simp (k, told .1) (rw (e, read-held held word) refl)
+        let k : goodCell (sizeWord b place) (leftIn bin over place) ≡ true = rw room at (read-cell .0) in
+        simp (k, read-cell .1) (rw (e, read-held held word) refl)
 
 -- ---- a step, by the size of the bin that the code read
 

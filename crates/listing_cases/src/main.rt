@@ -1,4 +1,5 @@
-// The listing of the hives in data/, one after another, each under its label: the module is the listing program's own.
+// The listing of the hives in data/, one after another, each under its label: the modules are the listing program's own.
+mod console;
 mod listing;
 
 fn case(label: &[u8]) {

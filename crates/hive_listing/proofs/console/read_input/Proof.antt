@@ -3,11 +3,11 @@ use mathlib.Core.Path.{_≡_}
 use lib.ListN.{length}
 use borrow.Author.Needs.{needs}
 use Rattle.io.proofs.Counting.{counts}
-use Rattle.hive_listing.proofs.listing.read_input.Statement.{statement}
-use Rattle.hive_listing.proofs.listing.read_input.Tie as tie
-use Rattle.hive_listing.proofs.listing.read_input.Reads as reads
-use Rattle.hive_listing.proofs.listing.read_input.Lts as lts
-use Rattle.hive_listing.proofs.listing.read_once.Reads as read-once-reads
+use Rattle.hive_listing.proofs.console.read_input.Statement.{statement}
+use Rattle.hive_listing.proofs.console.read_input.Tie as tie
+use Rattle.hive_listing.proofs.console.read_input.Reads as reads
+use Rattle.hive_listing.proofs.console.read_input.Lts as lts
+use Rattle.hive_listing.proofs.console.read_once.Reads as read-once-reads
 
 abbrev Inv-loop : tie.InvT-loop
 Inv-loop input image₀ bytes₀ failed₀ image bytes failed = (bytes ≤ length image) × (length image ≡ length image₀)

@@ -301,7 +301,29 @@ def walk(image, count, offset, base, budget, out):
 
 # ---- "Bins and cells"
 
-def bins(image, base, size):
+def bin_size(image, base, at, rest):
+    """The size of the bin at a position, with so many bytes to the end of the bins; None where there is no bin."""
+    # "A bin has "hbin", its own relative offset at 4, its size at 8, a nonzero multiple of 4,096 within the rest; else 10, also
+    # where the rest is too short for a header."
+    length = unsigned(image, at + 8, 4)
+    if (rest < 32 or image[at:at + 4] != b"hbin" or unsigned(image, at + 4, 4) != at - base
+            or length == 0 or length % 4096 != 0 or length > rest):
+        return None
+    return length
+
+
+def cell_word(image, cell, bin_end):
+    """The size word of the cell at a position of a bin; None where there is no cell."""
+    # "From its byte 32 cells fill it: size magnitude a nonzero multiple of 8 within the bin; else 11."
+    # a size word that passes the bin's end leaves no cell "within the bin"
+    word = signed(image, cell) if cell + 4 <= bin_end else 0
+    if word == 0 or word % 8 != 0 or abs(word) > bin_end - cell:
+        return None
+    return word
+
+
+def bins_and_cells(image, base, size):
+    """The number of the bins, and each cell's position and size word."""
     # "Base plus size past the image: 8, never 2."; "the base for 8 on the bins"
     if base + size > len(image):
         raise Refused(CUT_SHORT, base)
@@ -309,30 +331,86 @@ def bins(image, base, size):
     # "Bins fill the bins size exactly from the base."
     at, end = base, base + size
     while at < end:
-        rest = end - at
-        # "A bin has "hbin", its own relative offset at 4, its size at 8, a nonzero multiple of 4,096 within the rest; else 10, also
-        # where the rest is too short for a header."
-        length = unsigned(image, at + 8, 4)
-        if (rest < 32 or image[at:at + 4] != b"hbin" or unsigned(image, at + 4, 4) != at - base
-                or length == 0 or length % 4096 != 0 or length > rest):
+        length = bin_size(image, base, at, end - at)
+        if length is None:
             raise Refused(BAD_BIN, at)
-        # "From its byte 32 cells fill it: size magnitude a nonzero multiple of 8 within the bin; else 11."
         cell, bin_end = at + 32, at + length
         while cell < bin_end:
-            # a size word that passes the bin's end leaves no cell "within the bin"
-            word = signed(image, cell) if cell + 4 <= bin_end else 0
-            if word == 0 or word % 8 != 0 or abs(word) > bin_end - cell:
+            word = cell_word(image, cell, bin_end)
+            if word is None:
                 raise Refused(BAD_CELL, cell)
-            cells.append(word)
+            cells.append((cell, word))
             cell += abs(word)
         # "Each bin is judged with its cells before the next."
         count += 1
         at += length
+    return count, cells
+
+
+def bins(image, base, size):
+    count, cells = bins_and_cells(image, base, size)
     # "Answers: bins, allocated and free cells and bytes." "A negative size means allocated, a positive one free"
-    used, free = [-w for w in cells if w < 0], [w for w in cells if w > 0]
+    used, free = [-w for _, w in cells if w < 0], [w for _, w in cells if w > 0]
     # "Allocated plus free bytes plus 32 per bin equal the bins size"
     assert sum(used) + sum(free) + 32 * count == size
     return [count, len(used), len(free), sum(used), sum(free)]
+
+
+# ---- document 02, order 4: "Keys that were deleted"
+
+def step(lent, start, place):
+    """ "a reader that stands on one cell of the lent bins and tells the cell and the next place": it stands in the bin that starts at
+    `start`, on the cell at `place`, or before the bin's first cell where both are the same. Places count from the bins' start. Gives the
+    cell's place, its size word and the next spot; None at the end of the bins. """
+    if start == place == len(lent):
+        return None
+    # the bin by the rules above, the base being 0
+    size = bin_size(lent, 0, start, max(len(lent) - start, 0))
+    if size is None:
+        raise Refused(BAD_BIN, start)
+    over = start + size
+    # "From its byte 32 cells fill it": before that byte there is none
+    cell = start + 32 if place == start else place
+    word = cell_word(lent, cell, over) if cell >= start + 32 else None
+    if word is None:
+        raise Refused(BAD_CELL, cell)
+    # "tells the cell and the next place": behind a bin's last cell the next bin starts
+    after = cell + abs(word)
+    return cell, word, (over, over) if after == over else (start, after)
+
+
+def cells_by_steps(lent):
+    """Each cell's place and size word, by the reader, from the start of bins that are right to their end."""
+    cells, spot = [], (0, 0)
+    while (told := step(lent, *spot)) is not None:
+        cells.append(told[:2])
+        spot = told[2]
+    return cells
+
+
+def reads_as_key(image, position):
+    """ "reads as a key record by document 01" """
+    try:
+        key_record(image, position)
+        return True
+    except Refused:
+        return False
+
+
+def deleted_keys(image, base, size, out):
+    # "Within checked bins"; "Refusals: those of the bins"
+    _, cells = bins_and_cells(image, base, size)
+    # "The work goes through a reader": it goes through the same cells
+    assert cells_by_steps(image[base:base + size]) == [(at - base, word) for at, word in cells]
+    # "list the image position of each free cell that reads as a key record by document 01"; "A negative size means allocated, a
+    # positive one free"; "Every such cell appears once, in rising position; cells within a free cell aren't searched."
+    found = [at for at, word in cells if word > 0 and reads_as_key(image, at)]
+    # "then 9"; "NO ROOM also returns the places needed"
+    if len(found) > len(out):
+        raise Refused(NO_ROOM, places=len(found))
+    # "On success the output is written from the first place on"
+    out[:len(found)] = found
+    return found
 
 
 # ---- "Name hash"
@@ -459,7 +537,7 @@ def put(out, at, width, number):
 
 # ---- the stream and the lines (compare/README.md)
 
-IMAGE_MOST, NAME_MOST, ROOM_MOST, BYTES_MOST, DATA_MOST = 524_288, 65_536, 262_144, 32, 65_536
+IMAGE_MOST, NAME_MOST, ROOM_MOST, BYTES_MOST, DATA_MOST, WIDE_MOST = 524_288, 65_536, 262_144, 32, 65_536, 8_192
 PATCH, LENGTH = 100, 101
 
 
@@ -478,13 +556,14 @@ def summed(part):
 
 pattern = [(i + 1) * 0x9E3779B1 % 2 ** 32 for i in range(ROOM_MOST)]
 bytes_pattern = bytes(x % 256 for x in pattern[:DATA_MOST])
+wide_pattern = [(i + 1) * 0x9E3779B1 for i in range(WIDE_MOST)]  # in 64 bits
 
 
-def untouched(out, written):
+def untouched(out, written, before=pattern):
     """ "the places after the last one written keep their old contents": how many of them do. """
-    if out[written:] == pattern[written:len(out)]:
+    if out[written:] == before[written:len(out)]:
         return len(out) - written
-    return sum(out[i] == pattern[i] for i in range(written, len(out)))
+    return sum(out[i] == before[i] for i in range(written, len(out)))
 
 
 @functools.lru_cache(512)
@@ -567,6 +646,13 @@ def answer(tag, a, b, c, d, e, name, image):
             return ["ok", len(kept), lists, entries, dropped]
         except Refused as r:
             return r.told()
+    if tag == 24:
+        out = wide_pattern[:e]
+        try:
+            found = deleted_keys(image, a, b, out)
+            return ["ok"] + summed(out[:len(found)]) + [untouched(out, len(found), wide_pattern)]
+        except Refused as r:
+            return ["refused", r.number, r.position, r.places, untouched(out, 0, wide_pattern)]
     if tag == 6:
         return with_part(image, a, key_record, 2)
     if tag == 7:
@@ -597,6 +683,9 @@ def answer(tag, a, b, c, d, e, name, image):
             out = bytearray(bytes_pattern[:e])
             written = put(out, b, a, c + 2 ** 32 * d)
             return ["ok", int(written)] + whole_buffer(bytes(out))
+        if tag in (23, 25):
+            told = step(image, a + 2 ** 32 * b, c + 2 ** 32 * d)
+            return ["ok", "end"] if told is None else ["ok", "cell", *told[:2], *told[2]]
         return ["none"]
     except Refused as r:
         return ["refused", r.number, r.position]
@@ -647,7 +736,8 @@ def cases(read):
             image = None
         else:
             if (tag in (4, 13) and words[3] > ROOM_MOST or tag in (5, 14, 16) and words[4] > ROOM_MOST
-                    or tag == 19 and words[4] > BYTES_MOST or tag in (21, 22) and words[4] > DATA_MOST):
+                    or tag == 19 and words[4] > BYTES_MOST or tag in (21, 22) and words[4] > DATA_MOST
+                    or tag == 24 and words[4] > WIDE_MOST):
                 bad("room")
             if image is None:
                 image = bytes(kept[:length])

@@ -92,6 +92,9 @@ fn function(tag: u32) -> &'static str {
         20 => "record's counts",
         21 => "value data *",
         22 => "record's data *",
+        23 => "reader's step",
+        24 => "deleted keys",
+        25 => "bins' step",
         _ => "?",
     }
 }

@@ -38,12 +38,14 @@ impl Rng {
 
 const IMAGE_MOST: usize = 524_288;
 /// one more than the greatest tag of a case
-const TAGS: usize = 23;
+const TAGS: usize = 26;
 const ENOUGH: u32 = 1024;
 /// the greatest room for a value's data, and the bytes of it in one cell or one segment
 const DATA_MOST: u32 = 65_536;
 const SEGMENT: u32 = 16_344;
 const BUDGET: u32 = 65536;
+/// the greatest room for deleted keys, more than any image has
+const WIDE_MOST: u32 = 8192;
 
 /// Writes a stream. What a case needs of words, name and image is held against what the stream's reader has by then, and only
 /// the difference is written: of the image, patches and a length where these are shorter than the whole.
@@ -170,6 +172,15 @@ impl<W: Write> Out<W> {
     fn data_of(&mut self, at: u32, base: u32, minor: u32, rooms: &[u32]) {
         let b = self.words[1];
         for &room in rooms { self.case(22, &[at, b, base, minor, room.min(DATA_MOST)], None); }
+    }
+    /// One step of the reader of cells, the image being the bins, and the same by the function on slice and spot.
+    fn step(&mut self, bin: u64, place: u64) {
+        let words = [bin as u32, (bin >> 32) as u32, place as u32, (place >> 32) as u32];
+        if self.case(23, &words, None) { self.case(25, &words, None); }
+    }
+    fn deleted(&mut self, base: u32, size: u32, room: u32) {
+        let [_, _, c, d, _] = self.words;
+        self.case(24, &[base, size, c, d, room], None);
     }
     fn lookup(&mut self, count: u32, offset: u32, base: u32, name: &[u8]) { self.named(8, &[count, offset, base], name); }
     fn named(&mut self, tag: u8, words: &[u32], name: &[u8]) {
@@ -892,6 +903,12 @@ fn stored(o: &mut Out<impl Write>, seed: u64, files: &[String], rust: bool) {
     data_edges(o, false);
     datas(o, &mut Rng(seed), 40);
     dropping(o, &mut Rng(seed), 20, SMALL.0);
+    steps(o, false);
+    any_steps(o, &mut Rng(seed), 4);
+    deleted(o, false);
+    any_keys(o, &mut Rng(seed), 8);
+    o.one_in[23] = 6;
+    hive_bins(o, &mut Rng(seed), files, 2);
 }
 
 // ---- cells, and numbers written into a buffer: boundaries, and `random` others
@@ -998,6 +1015,352 @@ fn dropping(o: &mut Out<impl Write>, r: &mut Rng, random: u64, most: usize) {
             for (budget, room) in [(BUDGET, ENOUGH), (BUDGET, room), (budget, ENOUGH)] { o.walk(1, (p - base) as u32, base as u32, budget, room); }
             for room in [ENOUGH, room] { o.leaf(p as u64, base as u32, room); }
         }
+    }
+}
+
+// ---- the reader of cells, and deleted keys
+
+fn bin_header(m: &mut [u8], at: usize, own: usize, size: usize) {
+    m[at..at + 4].copy_from_slice(b"hbin");
+    put32(m, at + 4, own as u32);
+    put32(m, at + 8, size as u32);
+}
+
+/// Bins from `base` on: of each its size and its cells' size words; what these leave of it is one free cell more.
+fn bins_of(base: usize, rows: &[(usize, &[i32])]) -> Vec<u8> {
+    let mut m = vec![0; base];
+    for &(size, cells) in rows {
+        let start = m.len();
+        m.resize(start + size, 0);
+        bin_header(&mut m, start, start - base, size);
+        let mut at = start + 32;
+        for &word in cells { put32(&mut m, at, word as u32); at += word.unsigned_abs() as usize; }
+        if at < start + size { put32(&mut m, at, (start + size - at) as u32); }
+    }
+    m
+}
+
+/// The cells of bins that were made right, from `base` on: where each one's bin starts, and its own place.
+fn cells_of(m: &[u8], base: usize) -> Vec<(usize, usize)> {
+    let (mut cells, mut bin) = (vec![], base);
+    while bin + 32 <= m.len() {
+        let over = (bin + get32(m, bin + 8) as usize).min(m.len());
+        let mut at = bin + 32;
+        while at + 4 <= over {
+            cells.push((bin, at));
+            at += (get32(m, at) as i32).unsigned_abs().max(8) as usize;
+        }
+        bin = over.max(bin + 32);
+    }
+    cells
+}
+
+/// The size words around those that leave so many bytes to the bin's end.
+fn size_words(left: i32) -> Vec<i32> {
+    let sizes = [0, 1, 4, 7, 8, 9, 12, 16, left - 8, left - 4, left - 1, left, left + 1, left + 4, left + 8, left + 4096, 0x7ffffff8, i32::MAX];
+    sizes.into_iter().flat_map(|s| [s, -s]).chain([i32::MIN]).collect()
+}
+
+/// Steps: each rule on both sides. `more`: what is too much of the same to be stored.
+fn steps(o: &mut Out<impl Write>, more: bool) {
+    const HIGH: u64 = 1 << 32;
+    // no bytes, and so many of a bin's
+    let m = bins_of(0, &[(4096, &[8, -16, 88]), (8192, &[-8152]), (4096, &[-4064])]);
+    let all = m.len() as u64;
+    o.image(&m);
+    for n in 0..=40u64 {
+        o.length(n as usize);
+        o.step(0, 0);
+        if more || [0, 1, 31, 32, 33, 40].contains(&n) { for (bin, place) in [(0, 32), (n, n), (n, n + 1), (n + 1, n + 1)] { o.step(bin, place); } }
+    }
+    // cuts in a bin, in a header, at a bin's end
+    for n in [4095u64, 4096, 4097, 4100, 4127, 4128, 4136, 12287, 12288, 12289, 12319, 12320] {
+        o.length(n as usize);
+        for (bin, place) in [(0, 0), (0, 144), (4096, 4096), (4096, 12280), (12288, 12288), (n, n)] { o.step(bin, place); }
+    }
+    // each bin's start, header, cells and end, and the places beside these
+    o.length(all as usize);
+    for (bin, over) in [(0u64, 4096u64), (4096, 12288), (12288, all)] {
+        for place in [0, 1, 4, 8, 24, 28, 31, 32, 33, 36, 40, 56, 144].map(|x| bin + x) { o.step(bin, place); }
+        for place in [-16i64, -8, -4, -3, -1, 0, 1, 4, 8, 32, 40].map(|x| over.wrapping_add_signed(x)) { o.step(bin, place); }
+        for place in [0, 32, 4128, all, all + 1, HIGH, HIGH + bin, HIGH + bin + 32, (1 << 63) + bin + 32, u64::MAX - 4095, u64::MAX - 31, u64::MAX - 7, u64::MAX] { o.step(bin, place); }
+    }
+    // no bin starts there, or none starts there any more
+    for bin in [1, 8, 31, 32, 40, 4064, 4095, 4097, 8192, all - 4097, all - 33, all - 32, all - 31, all - 1, all, all + 1, all + 32, HIGH - 1, HIGH, HIGH + 4096, HIGH + all, 1 << 63, u64::MAX - 4095, u64::MAX - 31, u64::MAX - 30, u64::MAX] {
+        for place in [bin, bin.wrapping_add(32), 0] { o.step(bin, place); }
+    }
+    for place in [all - 1, all + 1, HIGH + all] { o.step(all, place); }
+    // size words of the first cell, of one behind it, of the last one
+    for (at, left) in [(32usize, 4064), (56, 4040), (4088, 8)] {
+        for word in size_words(left) {
+            o.patch(at, &signed(word));
+            o.step(0, at as u64);
+            if at == 32 && (more || word % 8 != 0 || word == -left) { o.step(0, 0); }
+        }
+        o.patch(at, &m[at..at + 4]);
+    }
+    // the second bin's header: the last step before it goes there all the same
+    let mut headers: Vec<Fault> = (4096..4100).flat_map(|at| [(at, vec![m[at] ^ 0x20]), (at, vec![0])]).collect();
+    for own in [0u32, 4095, 4097, 8192, 4096 + 65536, 0x80001000] { headers.push((4100, own.to_le_bytes().to_vec())); }
+    for size in [0u32, 1, 32, 4095, 4096, 4097, 8191, 8193, 12287, 12288, 12289, 16384, 0x80002000, 0xfffff000, u32::MAX] { headers.push((4104, size.to_le_bytes().to_vec())); }
+    for (at, bytes) in headers {
+        o.patch(at, &bytes);
+        for (bin, place) in [(4096, 4096), (4096, 4128), (4096, 12280), (0, 144)].into_iter().take(if more || at == 4104 { 4 } else { 2 }) { o.step(bin, place); }
+        if at == 4104 { o.step(12288, 12288); }
+        o.patch(at, &m[at..at + bytes.len()]);
+    }
+    // a first bin that reaches over the second one, and the bins' rest
+    for size in [8192u32, 12288, 16384, 20480] {
+        o.patch(8, &size.to_le_bytes());
+        for place in [0u64, 144, 4096, 4128, 12280, 12288] { o.step(0, place); }
+    }
+    o.patch(8, &m[8..12]);
+    if more {
+        // every place of a bin and every start of one; every byte of a header and of a size word
+        for x in 0..4200 { o.step(0, x); o.step(x, x); o.step(4096, x + 8190); }
+        for at in (4096..4108).chain(4128..4132).chain(12280..12284) {
+            for x in [0, 255, m[at] ^ 1, m[at] ^ 0x80, m[at].wrapping_add(8)] {
+                o.patch(at, &[x]);
+                for (bin, place) in [(4096, 4096), (4096, 4128), (4096, 12280), (12288, 12288)] { o.step(bin, place); }
+            }
+            o.patch(at, &m[at..at + 1]);
+        }
+        // bins of 4,096 bytes up to the greatest image
+        let m = bins_of(0, &[(4096, &[-8, 4048][..]); IMAGE_MOST / 4096]);
+        o.image(&m);
+        for bin in (0..IMAGE_MOST as u64).step_by(4096) { for place in [0, 32, 40, 4088, 4096] { o.step(bin, bin + place); } }
+        o.step(IMAGE_MOST as u64, IMAGE_MOST as u64);
+    }
+}
+
+/// Steps in random bins, and in damaged and cut ones.
+fn any_steps(o: &mut Out<impl Write>, r: &mut Rng, random: u64) {
+    for _ in 0..random {
+        let count = r.range(0, 3);
+        let m = bins(r, 0, count);
+        o.image(&m);
+        let cells = cells_of(&m, 0);
+        for _ in 0..12 { any_step(o, r, &m, &cells); }
+        if m.is_empty() { continue; }
+        for _ in 0..6 {
+            let (bin, at) = r.pick(&cells);
+            let at = if r.chance(3) { bin + r.range(0, 11) } else { at + r.range(0, 3) };
+            let x = if r.chance(2) { r.next() as u8 } else { m[at] ^ (1 << r.below(8)) };
+            o.patch(at, &[x]);
+            o.step(bin as u64, bin as u64);
+            o.step(bin as u64, (at & !7) as u64);
+            o.patch(at, &m[at..at + 1]);
+        }
+        let n = r.range(0, m.len());
+        o.length(n);
+        for _ in 0..2 { any_step(o, r, &m, &cells); }
+    }
+}
+
+/// A step, most often at a cell that was made.
+fn any_step(o: &mut Out<impl Write>, r: &mut Rng, m: &[u8], cells: &[(usize, usize)]) {
+    let n = m.len() as u64;
+    let (bin, place) = if cells.is_empty() { (0, 0) } else { r.pick(cells) };
+    let (bin, place) = (bin as u64, place as u64);
+    let (other, _) = if cells.is_empty() { (0, 0) } else { r.pick(cells) };
+    let (wide, low) = ((r.word() as u64) << 32 | r.word() as u64, r.below(n + 40));
+    match r.below(8) {
+        0 => o.step(bin, bin),
+        1 => o.step(bin, low),
+        2 => o.step(other as u64, place),
+        3 => o.step(low, low + 32 * (wide % 2)),
+        4 => o.step(wide, r.pick(&[wide, place, bin])),
+        5 => o.step(bin, r.pick(&[wide, n, place + 8, place.wrapping_sub(8)])),
+        _ => o.step(bin, place),
+    }
+}
+
+/// A key's size word, letters and name length; its other bytes stay.
+fn key_head(m: &mut [u8], p: usize, word: i32, letters: &[u8; 2], name: usize) {
+    put32(m, p, word as u32);
+    m[p + 4..p + 6].copy_from_slice(letters);
+    put16(m, p + 76, name as u16);
+}
+
+/// Keys of free cells: each rule on both sides. `more`: what is too much of the same to be stored.
+fn deleted(o: &mut Out<impl Write>, more: bool) {
+    // one cell at the start of its bin, and one at its end, which may be the image's
+    for base in [0usize, 7] { for size in [8usize, 64, 72, 80, 88, 4064] { for last in [false, true] {
+        let at = base + if last { 4096 - size } else { 32 };
+        if last && size == 4064 || base > 0 && !more && (size < 72 || size > 88) { continue; }
+        let m = bins_of(base, &[(4096, &[if last { 4064 - size } else { size } as i32])]);
+        let mut heads: Vec<(i32, &[u8; 2], usize)> = vec![];
+        let free = size as i32;
+        for word in [free, -free] { for name in [0, 1] { heads.push((word, b"nk", name)); } }
+        if size >= 80 {
+            for name in [size - 80, size - 79, 0xffff].into_iter().chain((size > 80).then(|| size - 81)) { for word in [free, -free] { heads.push((word, b"nk", name)); } }
+            for letters in [b"vk", b"nK", b"kn", b"sk", b"Nk", b"\0\0"] { heads.push((free, letters, 0)); }
+        }
+        heads.sort();
+        heads.dedup();
+        for tail in if more { vec![0usize, 3, 80] } else if last && size < 80 { vec![0, 80] } else { vec![0] } {
+            for &(word, letters, name) in &heads {
+                let mut m = m.clone();
+                m.resize(base + 4096 + tail, 0);
+                // what of the key passes its cell stands in the bytes behind it, as far as there are any
+                let mut whole = vec![0; m.len().max(at + 80)];
+                whole[..m.len()].copy_from_slice(&m);
+                key_head(&mut whole, at, word, letters, name);
+                if size < 80 && !last { whole[at + size..at + size + 4].copy_from_slice(&m[at + size..at + size + 4]); }
+                o.image(&whole[..m.len()]);
+                o.deleted(base as u32, 4096, 2);
+                if size == 88 && letters == b"nk" && name == 8 { for n in [0, 1] { o.deleted(base as u32, 4096, n); } }
+            }
+        }
+    } } }
+    // three bins: keys at the start and the end of each, allocated ones and other cells between them
+    let cells: [(usize, &[i32]); 3] = [(4096, &[88, -96, 24, 80, -88, 8, 3592, 88]), (8192, &[80, -88, 7904, 88]), (4096, &[128, 96, -3760, 80])];
+    for base in if more { &[0usize, 1, 7, 4096, 65541][..] } else { &[0, 7, 4096] } {
+        let mut m = bins_of(*base, &cells);
+        let (base, size) = (*base as u32, (m.len() - base) as u32);
+        let mut keys = vec![];
+        for (_, at) in cells_of(&m, base as usize) {
+            let word = get32(&m, at) as i32;
+            if ![80, 88, 96, 128].contains(&word.unsigned_abs()) { continue; }
+            key_head(&mut m, at, word, b"nk", word.unsigned_abs() as usize - 80);
+            if word > 0 { keys.push(at); }
+        }
+        let n = keys.len() as u32;
+        o.image(&m);
+        for k in (0..=n + 1).chain([WIDE_MOST]) { o.deleted(base, size, k); }
+        // one key fewer: by its sign, its letters, its name
+        for &at in &keys {
+            for (place, bytes) in [(at, signed(-(get32(&m, at) as i32))), (at + 4, *b"nl\x20\0"), (at + 76, signed(get32(&m, at) as i32 - 79))] {
+                o.patch(place, &bytes);
+                for k in [n - 1, n - 2].into_iter().take(if more || at == keys[0] { 2 } else { 1 }) { o.deleted(base, size, k); }
+                o.patch(place, &m[place..place + 4]);
+            }
+        }
+        // the bins' size, the base, the image's end
+        if more || base != 7 {
+            for size in [0, 1, 31, 32, 4095, 4096, 4097, 12287, 12288, 12289, size - 1, size, size + 1, size + 4096, u32::MAX - base, u32::MAX] { for k in [0, n] { o.deleted(base, size, k); } }
+            for at in [0, 1, 8, 4095, 4096, 4097, base.wrapping_sub(1), base + 1, base + 4096, m.len() as u32 - 1, m.len() as u32, m.len() as u32 + 1, 1 << 31, u32::MAX] {
+                for size in [0, 1, 4096, size] { o.deleted(at, size, n); }
+            }
+            for cut in [1, 8, 32, 80, 88, 4095, 4096] { o.length(m.len() - cut); o.deleted(base, size, n); o.deleted(base, size - cut as u32, n); }
+        }
+        o.length(m.len());
+        m.push(9);
+        o.image(&m);
+        for size in [size, size + 1] { o.deleted(base, size, n); }
+        // a bin or a cell at fault, before, between and behind the keys; 9 comes after it
+        let b = base as usize;
+        for (at, bytes) in [(b, b"hbiN".to_vec()), (b + 4, vec![1]), (b + 8, vec![0, 0]), (b + 4096, vec![0]), (b + 4100, vec![0, 0]), (b + 4104, vec![1]), (b + 12288, b"nibh".to_vec()), (b + 12296, vec![0, 0x20]),
+            (b + 32, vec![0]), (b + 32, vec![84]), (b + 120, vec![168]), (b + 4008, vec![80]), (b + 4008, vec![96]), (b + 4128, vec![0]), (b + 12200, vec![96]), (b + 12320, vec![129]), (b + 16304, vec![88]), (b + 16304, vec![72])] {
+            o.patch(at, &bytes);
+            for k in [0, n] { o.deleted(base, size, k); }
+            o.patch(at, &m[at..at + bytes.len()]);
+        }
+    }
+    // a key within a free cell: only what holds it is judged
+    for outer in [b"nk", b"sk"] { for (first, inner) in [(400i32, 96usize), (-400, 96), (96, 96), (-96, 96), (400, 8), (104, 96), (184, 96), (192, 104)] {
+        let mut m = bins_of(0, &[(4096, &[first])]);
+        key_head(&mut m, 32, first, outer, 16);
+        // what is a cell of its own keeps its size word where this is 88
+        key_head(&mut m, 32 + inner, 88, b"nk", 8);
+        put32(&mut m, 32 + inner + 88, (4064 - inner - 88) as u32);
+        if first.unsigned_abs() as usize != inner { let end = 32 + first.unsigned_abs() as usize; put32(&mut m, end, (4096 - end) as u32); }
+        o.image(&m);
+        for k in 0..3 { o.deleted(0, 4096, k); }
+    } }
+    // as many keys as a bin can hold
+    let many = |size: usize| {
+        let mut m = bins_of(0, &[(size, &vec![80; (size - 32) / 80])]);
+        for (_, at) in cells_of(&m, 0) { if get32(&m, at) == 80 { key_head(&mut m, at, 80, b"nk", 0); } }
+        (m, (size as u32 - 32) / 80)
+    };
+    let (m, n) = many(4096);
+    o.image(&m);
+    for k in [0, 1, n - 1, n, n + 1, WIDE_MOST - 1, WIDE_MOST] { o.deleted(0, 4096, k); }
+    if more {
+        let (m, n) = many(IMAGE_MOST);
+        o.image(&m);
+        for k in [0, n - 1, n, n + 1, WIDE_MOST] { o.deleted(0, IMAGE_MOST as u32, k); }
+        // each byte of a key changed
+        let mut m = bins_of(5, &[(4096, &[88, 104, -3784, 88])]);
+        for at in [37, 125, 4013] { let word = get32(&m, at) as i32; key_head(&mut m, at, word, b"nk", 8); }
+        o.image(&m);
+        for at in (37..240).chain(4013..4101) {
+            for x in [0, 255, m[at] ^ 1, m[at] ^ 0x80, m[at].wrapping_add(8)] { o.patch(at, &[x]); o.deleted(5, 4096, 3); }
+            o.patch(at, &m[at..at + 1]);
+        }
+    }
+}
+
+/// Keys of free cells of random bins, and of damaged and cut ones.
+fn any_keys(o: &mut Out<impl Write>, r: &mut Rng, random: u64) {
+    for _ in 0..random {
+        let (base, count) = (r.pick(&[0usize, 0, 9, 32, 4096]), r.range(1, 3));
+        let mut m = bins(r, base, count);
+        for (_, at) in cells_of(&m, base) {
+            let word = get32(&m, at) as i32;
+            let size = word.unsigned_abs() as usize;
+            if size < 72 || r.chance(3) { continue; }
+            let (spare, over) = (size.saturating_sub(80).min(60), r.chance(12) as usize);
+            let name = if r.chance(3) { size.saturating_sub(80) + over } else { r.range(0, spare) };
+            let letters = if r.chance(8) { r.pick(&[b"vk", b"sk", b"nK", b"lh"]) } else { b"nk" };
+            if at + 80 <= m.len() { key_head(&mut m, at, word, letters, name); }
+            // where the head passes a small cell, the next size word is put back
+            if size < 80 && at + size + 4 <= m.len() && (at + size - base) % 4096 >= 32 { put32(&mut m, at + size, 8); }
+        }
+        let size = (m.len() - base) as u32;
+        any_deleted(o, r, &m, base as u32, size, 8);
+    }
+}
+
+/// The keys of free cells of bins that were made, with some rooms, and of so many damaged copies and a cut one.
+fn any_deleted(o: &mut Out<impl Write>, r: &mut Rng, m: &[u8], base: u32, size: u32, damaged: usize) {
+    o.image(m);
+    for room in [0, ENOUGH, r.below(12) as u32] { o.deleted(base, size, room); }
+    let cells = cells_of(m, base as usize);
+    for _ in 0..damaged {
+        let mut changed = vec![];
+        for _ in 0..r.range(1, 3) {
+            if cells.is_empty() { break; }
+            let (bin, at) = r.pick(&cells);
+            let at = match r.below(6) { 0 => bin + r.range(0, 11), 1 => at + r.range(0, 3), 2 => at + r.range(4, 5), 3 => at + r.range(76, 77), _ => at + r.range(0, 90) };
+            if at >= m.len() { continue; }
+            let x = if r.chance(2) { r.next() as u8 } else { m[at] ^ (1 << r.below(8)) };
+            o.patch(at, &[x]);
+            changed.push(at);
+        }
+        o.deleted(base, size, r.pick(&[ENOUGH, ENOUGH, 1]));
+        for at in changed { o.patch(at, &m[at..at + 1]); }
+    }
+    let n = r.range(0, m.len());
+    o.length(n);
+    for size in [size, (n as u32).saturating_sub(base), (n as u32).saturating_sub(base) / 4096 * 4096] { o.deleted(base, size, ENOUGH); }
+    o.length(m.len());
+}
+
+/// Hives: the keys of their free cells as they are, and in so many copies in which some of their keys are free; steps through their bins.
+fn hive_bins(o: &mut Out<impl Write>, r: &mut Rng, files: &[String], copies: usize) {
+    for f in files {
+        let whole = std::fs::read(f).expect(f);
+        let m = &whole[..whole.len().min(IMAGE_MOST)];
+        let size = m.len() as u32 - 4096;
+        any_deleted(o, r, m, 4096, size, copies);
+        for size in [get32(m, 40), 4096, 0] { o.deleted(4096, size, ENOUGH); }
+        let keys: Vec<usize> = cells_of(m, 4096).into_iter().map(|(_, at)| at).filter(|&p| p + 80 <= m.len() && &m[p + 4..p + 6] == b"nk").collect();
+        for i in 0..copies {
+            let mut d = m.to_vec();
+            let mut n = 0;
+            for &p in &keys { if i == 0 || r.chance(3) { let word = get32(&d, p).wrapping_neg(); put32(&mut d, p, word); n += 1; } }
+            o.image(&d);
+            for room in [n, n + 1, n.max(1) - 1] { o.deleted(4096, size, room); }
+            any_deleted(o, r, &d, 4096, size, copies);
+        }
+        let lent = &m[4096..];
+        o.image(lent);
+        let cells = cells_of(lent, 0);
+        for &(bin, at) in &cells { o.step(bin as u64, at as u64); if at == bin + 32 { o.step(bin as u64, bin as u64); } }
+        o.step(lent.len() as u64, lent.len() as u64);
+        for _ in 0..4 * copies { any_step(o, r, lent, &cells); }
     }
 }
 
@@ -1498,14 +1861,14 @@ fn main() {
     let to = BufWriter::with_capacity(1 << 16, std::io::stdout().lock());
     let mut o = Out::new(to, [1; TAGS], 0);
     match (args.first().map(|s| s.as_str()), number(0), number(1)) {
-        (Some("fixed"), _, _) => { boundaries(&mut o); fixed(&mut o); wide(&mut o); cells(&mut o, &mut Rng(0), 0); puts(&mut o, &mut Rng(0), 0); leaves(&mut o, &mut Rng(0), 0, 0); data_edges(&mut o, true) }
-        (Some("hives"), _, Some(seed)) => hives(&mut o, &mut Rng(seed), &args[2..], 12, 40),
+        (Some("fixed"), _, _) => { boundaries(&mut o); fixed(&mut o); wide(&mut o); cells(&mut o, &mut Rng(0), 0); puts(&mut o, &mut Rng(0), 0); leaves(&mut o, &mut Rng(0), 0, 0); data_edges(&mut o, true); steps(&mut o, true); deleted(&mut o, true) }
+        (Some("hives"), _, Some(seed)) => { hives(&mut o, &mut Rng(seed), &args[2..], 12, 40); hive_bins(&mut o, &mut Rng(seed), &args[2..], 40) }
         (Some("stored"), _, Some(seed)) => stored(&mut o, seed, &args[2..], false),
         (Some("stored-rust"), _, Some(seed)) => {
             if args[2] != "-" { o.marked = Some(std::fs::read(&args[2]).expect("a list of marks")); }
             stored(&mut o, seed, &args[3..], true)
         }
-        (_, Some(seed), Some(n)) => { rounds(&mut o, &mut Rng(seed), n, USUAL); cells(&mut o, &mut Rng(seed), 10 * n); puts(&mut o, &mut Rng(seed), 10 * n); leaves(&mut o, &mut Rng(seed), n, USUAL.0); datas(&mut o, &mut Rng(seed), 4 * n); dropping(&mut o, &mut Rng(seed), n, USUAL.0) }
+        (_, Some(seed), Some(n)) => { rounds(&mut o, &mut Rng(seed), n, USUAL); cells(&mut o, &mut Rng(seed), 10 * n); puts(&mut o, &mut Rng(seed), 10 * n); leaves(&mut o, &mut Rng(seed), n, USUAL.0); datas(&mut o, &mut Rng(seed), 4 * n); dropping(&mut o, &mut Rng(seed), n, USUAL.0); any_steps(&mut o, &mut Rng(seed), n); any_keys(&mut o, &mut Rng(seed), n) }
         _ => { eprintln!("usage: cases fixed | hives SEED FILE.. | stored SEED FILE.. | stored-rust SEED MARKS FILE.. | SEED ROUNDS"); std::process::exit(2) }
     }
     o.to.flush().unwrap();

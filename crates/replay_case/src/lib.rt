@@ -114,3 +114,30 @@ pub fn place_sums(row: &[u32]) -> Sums
     }
     sums
 }
+
+// The number at a place of a row of 64-bit places.
+fn wide_at(row: &[u64], i: usize) -> u64
+    ensures { λ r. ⌜ r ≡ placeAt (now (row .entry)) i ⌝ }
+{
+    if i < row.len() {
+        row[i]
+    } else {
+        0
+    }
+}
+
+// The sums of a row of 64-bit places.
+pub fn wide_sums(row: &[u64]) -> Sums
+    ensures { λ r. ⌜ r ≡ sumsOf (placeAt (now (row .entry))) (length (now (row .entry))) ⌝ }
+{
+    let mut sums = Sums {
+        plain: 0,
+        running: 0,
+    };
+    let mut i: usize = 0;
+    while i < row.len() {
+        sums = more(sums, wide_at(row, i));
+        i += 1;
+    }
+    sums
+}

@@ -15,6 +15,8 @@ use cell_key_value::KeyValue;
 use cell_key_value::LookupAnswer;
 use cell_key_value::ValueAnswer;
 use hive_bin::BinsAnswer;
+use hive_bin::Spot;
+use hive_bin::Step;
 use name_hash::HashAnswer;
 use replay_case::Case;
 use sub_key_list::SubKeyList;
@@ -218,7 +220,7 @@ fn leaf_line(answer: LeafAnswer, out: &[u32]) {
 // The position has 64 bits, the words a and b.
 fn leaf(image: &[u8], case: Case, out: &mut [u32]) {
     places::prefill(out);
-    let position = case.a as usize + 4294967296 * (case.b as usize);
+    let position = joined(case.a, case.b);
     let answer = sub_key_walk::leaf_sub_keys(image, case.c, position, out);
     leaf_line(answer, out);
 }
@@ -365,6 +367,34 @@ fn bins(image: &[u8], base: u32, bins_size: u32) {
             size(totals.free_bytes);
         }
         BinsAnswer::Refused(refusal) => refused(refusal),
+    }
+}
+
+// A number of 64 bits, of two of a case's words.
+fn joined(low: u32, high: u32) -> usize {
+    low as usize + 4294967296 * (high as usize)
+}
+
+// Where a reader of cells stands: the words a and b are the bin's start, c and d the place.
+fn spot_of(case: Case) -> Spot {
+    Spot {
+        bin: joined(case.a, case.b),
+        place: joined(case.c, case.d),
+    }
+}
+
+fn step_line(step: Step) {
+    match step {
+        Step::Cell(cell) => {
+            lines::text(b" ok cell");
+            size(cell.place);
+            lines::signed(cell.size);
+            let next = cell.next;
+            size(next.bin);
+            size(next.place);
+        }
+        Step::End => lines::text(b" ok end"),
+        Step::Refused(refusal) => refused(refusal),
     }
 }
 
@@ -527,6 +557,8 @@ pub fn answer(tag: u8, case: Case, image: &[u8], name: &[u8], out: &mut [u32]) {
         20 => counts_of(image, case),
         21 => with_bytes(tag, case, image),
         22 => with_bytes(tag, case, image),
+        23 => step_line(cell_reader::tell(image, spot_of(case))),
+        25 => step_line(hive_bin::step_at(image, spot_of(case))),
         _ => lines::text(b" none"),
     }
 }

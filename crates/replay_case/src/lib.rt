@@ -119,11 +119,7 @@ pub fn place_sums(row: &[u32]) -> Sums
 fn wide_at(row: &[u64], i: usize) -> u64
     ensures { λ r. ⌜ r ≡ placeAt (now (row .entry)) i ⌝ }
 {
-    if i < row.len() {
-        row[i]
-    } else {
-        0
-    }
+    if i < row.len() { row[i] } else { 0 }
 }
 
 // The sums of a row of 64-bit places.

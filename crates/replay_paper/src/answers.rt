@@ -14,6 +14,7 @@ use cell_key_node::ValueListAnswer;
 use cell_key_value::KeyValue;
 use cell_key_value::LookupAnswer;
 use cell_key_value::ValueAnswer;
+use deleted_keys::DeletedAnswer;
 use hive_bin::BinsAnswer;
 use hive_bin::Spot;
 use hive_bin::Step;
@@ -398,6 +399,36 @@ fn step_line(step: Step) {
     }
 }
 
+fn deleted_line(answer: DeletedAnswer, out: &[u64]) {
+    match answer {
+        DeletedAnswer::Listed(count) => {
+            lines::text(b" ok");
+            places::written_wide(out, count);
+        }
+        DeletedAnswer::Refused(refusal) => {
+            room_refused(refusal);
+            places::untouched_wide(out, 0);
+        }
+    }
+}
+
+fn deleted(image: &[u8], case: Case, out: &mut [u64]) {
+    places::prefill_wide(out);
+    let answer = deleted_keys::deleted_keys(image, case.a, case.b, out);
+    deleted_line(answer, out);
+}
+
+// A case that has a buffer of 64-bit places, with its first places lent.
+fn with_wide(case: Case, image: &[u8]) {
+    let mut wide = [0u64; 8192];
+    let n = case.e as usize;
+    if 8192 < n {
+        lines::text(b" bad room");
+        return;
+    }
+    deleted(image, case, &mut wide[0..n]);
+}
+
 fn list(image: &[u8], position: usize) {
     match sub_key_list::read_list(image, position) {
         SubKeyList::Leaf(leaf) => {
@@ -558,6 +589,7 @@ pub fn answer(tag: u8, case: Case, image: &[u8], name: &[u8], out: &mut [u32]) {
         21 => with_bytes(tag, case, image),
         22 => with_bytes(tag, case, image),
         23 => step_line(cell_reader::tell(image, spot_of(case))),
+        24 => with_wide(case, image),
         25 => step_line(hive_bin::step_at(image, spot_of(case))),
         _ => lines::text(b" none"),
     }

@@ -7,6 +7,7 @@ use cell_key_node::ValueListAnswer;
 use cell_key_value::KeyValue;
 use cell_key_value::LookupAnswer;
 use cell_key_value::ValueAnswer;
+use deleted_keys::DeletedAnswer;
 use hive_bin::BinsAnswer;
 use sub_key_walk::WalkAnswer;
 use value_data::DataAnswer;
@@ -173,6 +174,19 @@ fn root(image: &[u8], minor: u32, offset: i32) {
     }
 }
 
+// Step 9: the keys that were deleted, by the positions of their records, into a lent buffer. The bins are checked by this too.
+fn deleted(image: &[u8], size: u32) {
+    let mut out = [0u64; 16];
+    say(b" deleted");
+    match deleted_keys::deleted_keys(image, BASE, size, &mut out) {
+        DeletedAnswer::Refused(f) => refused(f.number, f.position),
+        DeletedAnswer::Listed(n) => {
+            number(n as u64);
+            line();
+        }
+    }
+}
+
 // Step 2: bins and cells, before anything in them is believed.
 fn bins(image: &[u8], minor: u32, size: u32, root_offset: i32) {
     say(b" bins");
@@ -182,6 +196,7 @@ fn bins(image: &[u8], minor: u32, size: u32, root_offset: i32) {
             number(t.bins as u64);
             line();
             root(image, minor, root_offset);
+            deleted(image, size);
         }
     }
 }

@@ -1,5 +1,6 @@
 #!/usr/bin/env python3
-"""Makes the hives of crates/hive_listing and crates/listing_cases, and what documents 01 and 02 say that the listing prints of each.
+"""Makes the hives of crates/hive_listing, crates/listing_cases and crates/deleted_listing, and what documents 01 and 02 say that the
+listings print of each.
 
     compare/listing.py          (from the project's root)
 
@@ -11,6 +12,17 @@ import struct
 import paper
 
 BASE, BUDGET, ROOM, MOST = 4096, 1024, 4096, 65536
+DELETED_ROOM = 1024
+
+
+def base_line(image):
+    """ "`base`: sequences, version, raw type, root, bins size, stored and computed checksum (eight lower-case hex digits)." """
+    if len(image) > MOST:
+        raise paper.Refused(paper.TOO_LARGE)
+    paper.base_block(image)
+    u = lambda at: paper.unsigned(image, at, 4)
+    return "base %d %d %d %d %d %d %d %08x %08x" % (
+        u(4), u(8), u(20), u(24), u(28), paper.signed(image, 36), u(40), u(508), paper.checksum(image))
 
 
 def listing(image):
@@ -18,14 +30,9 @@ def listing(image):
     line of its own) and walk in turn, prints the lines of each that succeeds, and stops at the first refusal with `refused N`." """
     lines = []
     try:
-        if len(image) > MOST:
-            raise paper.Refused(paper.TOO_LARGE)
-        paper.base_block(image)
+        lines.append(base_line(image))
         u = lambda at: paper.unsigned(image, at, 4)
         root, size = paper.signed(image, 36), u(40)
-        # "`base`: sequences, version, raw type, root, bins size, stored and computed checksum (eight lower-case hex digits)."
-        lines.append("base %d %d %d %d %d %d %d %08x %08x"
-                     % (u(4), u(8), u(20), u(24), u(28), root, size, u(508), paper.checksum(image)))
         # "`bins`: bins, allocated and free cells, allocated and free bytes."
         lines.append("bins %d %d %d %d %d" % tuple(paper.bins(image, BASE, size)))
         # 2: "for the program, also a negative root offset"
@@ -38,6 +45,19 @@ def listing(image):
         kept, lists, entries, dropped = paper.walk(image, u(at + 24), u(at + 32), BASE, BUDGET, [0] * ROOM)
         lines.append("keys %d %d %d %d" % (len(kept), lists, entries, dropped))
         lines += [str(x) for x in kept]
+    except paper.Refused as r:
+        lines.append("refused %d" % r.number)
+    return "".join(line + "\n" for line in lines)
+
+
+def deleted(image):
+    """Document 02, order 4, as `./list --deleted` prints it: the base block's line, the number of deleted keys, and their positions."""
+    lines = []
+    try:
+        lines.append(base_line(image))
+        positions = paper.deleted_keys(image, BASE, paper.unsigned(image, 40, 4), [0] * DELETED_ROOM)
+        lines.append("deleted %d" % len(positions))
+        lines += [str(x) for x in positions]
     except paper.Refused as r:
         lines.append("refused %d" % r.number)
     return "".join(line + "\n" for line in lines)
@@ -170,6 +190,11 @@ def main():
     home = "crates/hive_listing"
     open(home + "/stdin", "wb").write(example())
     open(home + "/stdout", "w").write(listing(bytes(example())))
+    # the key `A` deleted: its cell, at 144, is free
+    home = "crates/deleted_listing"
+    hive = example().word(BASE + 144, 88)
+    open(home + "/stdin", "wb").write(hive)
+    open(home + "/stdout", "w").write(deleted(bytes(hive)))
     home = "crates/listing_cases"
     lines, calls = [], []
     for label, hive in hives():

@@ -2,7 +2,7 @@
 // bins and a spot. The checker's own walk covers no function over a struct that holds a slice, so the proofs of these are written by hand, and each is
 // thin: the work is `hive_bin::step_at`. Whoever calls `tell` needs no such proof.
 ghost use mathlib.Core.Path.{_≡_};
-ghost use Rattle.hive_bin.specs.Steps.{start, stepAt, stepPaper};
+ghost use Rattle.hive_bin.specs.Steps.{stepAt, stepPaper};
 use hive_bin::Spot;
 use hive_bin::Step;
 

@@ -1,11 +1,11 @@
 -- What the passes make of an image: the answer, and what the buffer holds. Assumes nothing.
 use Prim.Native.Nat.{ℕ, _+_, _≤_, _<_}
-use mathlib.Core.Path.{_≡_, refl, sym, ap, subst, _∙_}
-use mathlib.Core.List.{List, _++_}
+use mathlib.Core.Path.{_≡_, refl, sym, ap, _∙_}
+use mathlib.Core.List.{List}
 use native.Mathlib.Omega.{arith}
 use lib.ListN.{length, take, drop}
 use Rattle.words.specs.Refusals.{CUT-SHORT}
-use Rattle.words.specs.Paper.{Told, Paper, success, refused, by, toldOfRoom, onSuccess}
+use Rattle.words.specs.Paper.{Paper, success, refused, by, toldOfRoom, onSuccess}
 use Rattle.words.specs.Buffers.{needing, inRoom}
 use Rattle.words.specs.declared.RoomRefusal.{RoomRefusal}
 use Rattle.words.proofs.Papers.{on-refused, on-success-of}

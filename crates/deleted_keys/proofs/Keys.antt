@@ -11,10 +11,9 @@ use mir.Syntax.{w32}
 use mir.Val.{SFits}
 use borrow.Author.Tests.{lt-ltb, le-ltb}
 use Rattle.words.specs.Refusals.{CUT-SHORT}
-use Rattle.words.specs.Paper.{Paper, success, refused, by, onSuccess}
-use Rattle.words.proofs.Signed.{read, back}
+use Rattle.words.specs.Paper.{refused, by, onSuccess}
+use Rattle.words.proofs.Signed.{read}
 use Rattle.hive_bin.specs.Walk.{Walk, found, fault, shift, binsIn, binsAt}
-use Rattle.hive_bin.specs.Totals.{negative}
 use Rattle.hive_bin.specs.Steps.{cellsOf}
 use Rattle.hive_bin.proofs.Signs.{negative-read, positive-read}
 use Rattle.cell_key_node.specs.Key.{keyAt, keyPaper}
@@ -22,7 +21,7 @@ use Rattle.cell_key_node.specs.declared.KeyNode.{KeyNode}
 use Rattle.cell_key_node.specs.declared.KeyAnswer.{KeyAnswer}
 use Rattle.cell_key_node.specs.declared.KeyAnswer.the-variants.{Key, Refused}
 use Rattle.words.specs.declared.Refusal.{Refusal}
-use Rattle.deleted_keys.specs.Deleted.{succeeds, isDeleted, positionsOf, deletedOf}
+use Rattle.deleted_keys.specs.Deleted.{isDeleted, positionsOf, deletedOf}
 use Rattle.deleted_keys.specs.Scan.{keysOf, keysIn}
 
 -- ---- one cell, by what the code has read: its size word, and the key record at its position

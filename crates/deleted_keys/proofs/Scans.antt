@@ -1,13 +1,13 @@
 -- Laws of a pass over the bins: what was counted and written so far, and what is left. Assumes nothing.
 use Prim.Native.Nat.{ℕ, _+_, _≤_, _<_}
 use mathlib.Core.Path.{_≡_, refl, sym, ap, subst, _∙_}
-use mathlib.Core.List.{List, [], _∷_, _++_, map, append-assoc, append-nil}
+use mathlib.Core.List.{List, [], _∷_, _++_, append-assoc, append-nil}
 use mathlib.Core.Bool.{Bool, true, false, cond}
 use native.Mathlib.Omega.{arith}
 use lib.ListN.{length, drop, set, length-append, length-set}
 use lib.Dec.{ltb}
 use borrow.Author.Tests.{ltb-true, ltb-false, lt-ltb, le-ltb}
-use Rattle.words.specs.Paper.{Told, Paper, success, refused, by, told, onSuccess}
+use Rattle.words.specs.Paper.{Paper, success, refused, by, onSuccess}
 use Rattle.words.proofs.Papers.{refused-success, same-success}
 use Rattle.words.proofs.Buffers.{written-more}
 use Rattle.hive_bin.specs.declared.Spot.{Spot}
@@ -15,8 +15,8 @@ use Rattle.hive_bin.specs.declared.CellStep.{CellStep}
 use Rattle.hive_bin.specs.declared.Step.{Step}
 use Rattle.hive_bin.specs.declared.Step.the-variants.{Cell, End, Refused}
 use Rattle.words.specs.declared.Refusal.{Refusal}
-use Rattle.hive_bin.specs.Walk.{Found, moved, binsIn}
-use Rattle.hive_bin.specs.Steps.{start, stepAt, stepPaper, cellsOf}
+use Rattle.hive_bin.specs.Walk.{Found, moved}
+use Rattle.hive_bin.specs.Steps.{start, stepAt, stepPaper}
 use Rattle.hive_bin.proofs.Stepping.{rest, Stands, stands-in, stands-start, Tells, Says, step-says, rest-all}
 use Rattle.deleted_keys.specs.declared.DeletedAnswer.{DeletedAnswer}
 use Rattle.deleted_keys.specs.declared.DeletedAnswer.the-variants.{Listed}

@@ -2,7 +2,7 @@
 use Prim.Native.Nat.{ℕ, suc, _+_, _≤_, _<_}
 use mathlib.Core.Path.{_≡_, refl, sym, ap, subst, _∙_}
 use mathlib.Core.Logic.{_↔_, _⊎_, inl, inr}
-use mathlib.Core.List.{List, [], _∷_, _++_, map}
+use mathlib.Core.List.{List, [], _∷_, map}
 use mathlib.Core.Bool.{Bool, true, false, cond, not, _&&_, false≢true}
 use native.Mathlib.Nat.{add-zero}
 use native.Mathlib.Omega.{arith}
@@ -22,9 +22,8 @@ use Rattle.hive_bin.proofs.Stepping.{rising-later, rising}
 use Rattle.hive_bin.proofs.Totals.{given}
 use Rattle.cell_key_node.specs.Key.{keyAt}
 use Rattle.cell_key_node.specs.declared.KeyNode.{KeyNode}
-use Rattle.deleted_keys.specs.declared.DeletedAnswer.{DeletedAnswer}
 use Rattle.deleted_keys.specs.declared.DeletedAnswer.the-variants.{Listed, Refused}
-use Rattle.deleted_keys.specs.Deleted.{succeeds, isDeleted, positionsOf, deletedOf, listedOf, rowOf, deletedPaper, DeletedAnswered}
+use Rattle.deleted_keys.specs.Deleted.{succeeds, isDeleted, positionsOf, deletedOf, listedOf, rowOf, DeletedAnswered}
 use Rattle.deleted_keys.specs.Whole.{Among, Deleted, WasListed, WasRefused}
 
 -- ---- rising numbers

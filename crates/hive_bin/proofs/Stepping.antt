@@ -1,7 +1,7 @@
 -- From the start to the end a reader's steps tell the cells of the definition: what one step says of what is left. Assumes nothing.
 use Prim.Native.Nat.{ℕ, zero, suc, _+_, _-_, _≤_, _<_}
 use mathlib.Core.Path.{_≡_, refl, sym, ap, subst, _∙_}
-use mathlib.Core.List.{List, [], _∷_, _++_, append-assoc}
+use mathlib.Core.List.{List, [], _∷_, append-assoc}
 use mathlib.Core.Bool.{Bool, true, false, cond}
 use native.Mathlib.Nat.{add-assoc}
 use native.Mathlib.Omega.{arith}
@@ -17,7 +17,7 @@ use Rattle.hive_bin.specs.declared.Spot.{Spot}
 use Rattle.hive_bin.specs.declared.Step.{Step}
 use Rattle.hive_bin.specs.declared.Step.the-variants.{Cell, End, Refused}
 use Rattle.hive_bin.specs.Walk.{Found, Walk, found, fault, join, row, sizeWord, goodCell, cellRow, goodBin, binRow, binsIn}
-use Rattle.hive_bin.specs.Steps.{spot, start, Stepped, cell, end, nextOf, leftIn, cellIn, placeOf, atEnd, stepAt, stepPaper, cellsOf, andOn, cellsBy, Keeps, TellsAll, places, Rising}
+use Rattle.hive_bin.specs.Steps.{start, Stepped, cell, end, nextOf, cellIn, placeOf, stepAt, stepPaper, cellsOf, andOn, cellsBy, Keeps, TellsAll, places, Rising}
 use Rattle.hive_bin.proofs.Rows.{row-end, row-bad, row-more}
 use Rattle.hive_bin.proofs.Pieces.{cell-facts, cells-sound, bin-facts, bins-sound}
 use Rattle.hive_bin.proofs.Steps.{behind-header, next-bin, next-cell, at-start, not-at-start}

@@ -8,7 +8,7 @@ use lib.ListN.{length}
 use lib.Dec.{ltb, eqb}
 use lib.IntN.{ℤ, natAbs}
 use lib.Signed.{mag}
-use borrow.Author.Tests.{ltb-true, ltb-false, eq-eqb, ne-eqb, lt-ltb, le-ltb}
+use borrow.Author.Tests.{ltb-false, eq-eqb, ne-eqb, lt-ltb, le-ltb}
 use Rattle.words.specs.Refusals.{BAD-BIN, BAD-CELL}
 use Rattle.words.specs.Words.{word32}
 use Rattle.words.specs.Paper.{Paper, success, refused, by}
@@ -18,7 +18,7 @@ use Rattle.hive_bin.specs.declared.Spot.{Spot}
 use Rattle.hive_bin.specs.Walk.{Found, sizeWord, goodCell, cellRow, goodBin, binRow, cellSize, binSize}
 use Rattle.hive_bin.specs.Steps.{spot, Stepped, cell, end, nextOf, leftIn, cellIn, placeOf, atEnd, stepAt, InBin}
 use Rattle.hive_bin.proofs.Rows.{no-size, some-size}
-use Rattle.hive_bin.proofs.Pieces.{cell-facts, cells-sound, bins-sound, cell-size-held, bin-facts, no-bin, bin-size-held, bin-told}
+use Rattle.hive_bin.proofs.Pieces.{cell-facts, cells-sound, bins-sound, cell-size-held, bin-facts, no-bin, bin-size-held}
 
 -- ---- the next place, and the bytes for a cell
 

@@ -35,8 +35,7 @@ use denote.Triple.Spec.{Meets, tripleOf}
 use denote.Triple.Table.{entered, cited}
 use denote.Triple.Walked.{says, Stays, stay-none, walkOf, goes-none, Walks, ends-at, walked, walk-meets}
 use denote.Exit.{yes}
-use Rattle.words.specs.Paper.{Paper}
-use Rattle.hive_bin.specs.Steps.{Stepped, stepAt, stepPaper}
+use Rattle.hive_bin.specs.Steps.{stepAt, stepPaper}
 use Rattle.hive_bin.specs.declared.Step.{Step}
 use Rattle.hive_bin.proofs.Step as S
 use Rattle.hive_bin.proofs.Step.Laws as S′
@@ -47,7 +46,7 @@ use Rattle.hive_bin.proofs.step_at.Met as step-at-thm
 use Rattle.cell_reader.specs.declared.CellReader.{CellReader}
 use Rattle.cell_reader.proofs.CellReader as T
 use Rattle.cell_reader.proofs.CellReader.Laws as T′
-use Rattle.cell_reader.proofs.Lent.{sliceOf, held, Held}
+use Rattle.cell_reader.proofs.Lent.{held, Held}
 use Rattle.cell_reader.proofs.step.Key.{name as #step}
 use Rattle.cell_reader.proofs.step as step
 use Rattle.cell_reader.proofs.step.Statement as stated

@@ -1,5 +1,4 @@
 use Rattle.words.proofs.Signed.{held}
-use denote.Ref.{now}
 use mathlib.Core.Path.{refl, sym, ap, _∙_}
 use native.Mathlib.Omega.{arith}
 use Rattle.hive_bin.specs.Steps.{stepPaper}

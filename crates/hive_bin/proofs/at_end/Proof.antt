@@ -1,6 +1,5 @@
 use denote.Ref.{now}
 use Rattle.hive_bin.proofs.Steps.{not-at-start, at-start}
-use borrow.Author.Needs.{needs}
 use Rattle.hive_bin.proofs.at_end.Statement.{statement}
 use Rattle.hive_bin.proofs.at_end.Tie as tie
 use Rattle.hive_bin.proofs.at_end.Reads as reads

@@ -1,5 +1,4 @@
 use Rattle.hive_bin.proofs.Steps.{next-bin, next-cell}
-use borrow.Author.Needs.{needs}
 use Rattle.hive_bin.proofs.next_of.Statement.{statement}
 use Rattle.hive_bin.proofs.next_of.Tie as tie
 use Rattle.hive_bin.proofs.next_of.Reads as reads

@@ -47,7 +47,7 @@ cells-fault n p w = refl
 
 -- ---- what is left
 
--- from a place of a bin on, the bin being over at another: its further cells, and the bins behind it
+-- from a place of a bin that ends at `over` on: its further cells, and the bins behind it
 inBin : List ℕ → ℕ → ℕ → Walk
 inBin b over place = join (row (cellRow b) place (over - place)) (row (binRow b) over (length b - over))
 

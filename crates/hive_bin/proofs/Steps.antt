@@ -15,8 +15,10 @@ use Rattle.words.specs.Paper.{Paper, success, refused, by}
 use Rattle.words.proofs.Papers.{refused-success, same-success}
 use Rattle.words.proofs.Signed.{read, held as read-held}
 use Rattle.hive_bin.specs.declared.Spot.{Spot}
+use Rattle.hive_bin.specs.declared.CellStep.{CellStep}
+use Rattle.hive_bin.specs.declared.Step.the-variants.{Cell}
 use Rattle.hive_bin.specs.Walk.{Found, sizeWord, goodCell, cellRow, goodBin, binRow, cellSize, binSize}
-use Rattle.hive_bin.specs.Steps.{spot, Stepped, cell, end, nextOf, leftIn, cellIn, placeOf, atEnd, stepAt, InBin}
+use Rattle.hive_bin.specs.Steps.{spot, Stepped, cell, end, nextOf, leftIn, cellIn, placeOf, atEnd, stepAt, stepPaper, InBin}
 use Rattle.hive_bin.proofs.Rows.{no-size, some-size}
 use Rattle.hive_bin.proofs.Pieces.{cell-facts, cells-sound, bins-sound, cell-size-held, bin-facts, no-bin, bin-size-held}
 
@@ -127,9 +129,9 @@ module _ (b : List ℕ) (s : Spot) (c : Found) (t : Spot) where
   abbrev over : ℕ
   over = s .bin + word32 b (s .bin + 8)
 
-  pub told-in-bin : stepAt b s ≡ success (cell c t) → InBin b s c
+  cell-in-bin : stepAt b s ≡ success (cell c t) → InBin b s c
   unfolding stepAt cellIn
-  told-in-bin e = go (atEnd b s) (goodBin b (s .bin) (length b - s .bin)) refl e
+  cell-in-bin e = go (atEnd b s) (goodBin b (s .bin) (length b - s .bin)) refl e
     where
       at : ℕ
       at = placeOf s
@@ -154,3 +156,7 @@ module _ (b : List ℕ) (s : Spot) (c : Found) (t : Spot) where
       go true g h f = absurd (cell-end (sym (same-success f)))
       go false true h f = in-cell (goodCell (sizeWord b at) (leftIn (s .bin) over at)) h refl f
       go false false h f = absurd (refused-success f)
+
+-- of an answer that the promise of `step_at` allows
+pub told-in-bin : (b : List ℕ) (s : Spot) (c : CellStep) → stepPaper (Cell c) ≡ stepAt b s → InBin b s (record { place = c .place; size = c .size })
+told-in-bin b s c e = cell-in-bin b s _ (c .next) (sym e)

@@ -29,15 +29,15 @@ pub data Stepped : Type 0 where
   cell : Found → Spot → Stepped
   end : Stepped
 
--- the next place, behind a cell that ends at a place of a bin: in that bin, or where the bin is `over`, at the start of what follows it
+-- "the next place", behind a cell that ends at `place`, in the bin from `bin` to `over`: in that bin, or at the start of what follows it
 unfoldable pub nextOf : ℕ → ℕ → ℕ → Spot
 nextOf bin over place = cond (eqb place over) (spot over over) (spot bin place)
 
--- the bytes for a cell at a place of a bin that is `over` at a place: those from there on, and none where it is not behind the header
+-- the bytes for a cell at a place of the bin from `bin` to `over`: those up to its end, and none where the place is not behind its header
 unfoldable pub leftIn : ℕ → ℕ → ℕ → ℕ
 leftIn bin over place = cond (ltb place (bin + 32)) 0 (over - place)
 
--- the cell at a place of a bin, "else 11"
+-- the cell at a place of that bin, "else 11"
 unfoldable pub cellIn : List ℕ → ℕ → ℕ → ℕ → Paper Stepped
 cellIn b bin over place =
     cond (goodCell (sizeWord b place) (leftIn bin over place))

@@ -241,7 +241,7 @@ fn no_step(number: u32, place: usize) -> Step
     })
 }
 
-// The next place, behind a cell that ends at a place of a bin, which is `over` at another.
+// Where a reader stands next, behind a cell that ends at `place`, in the bin from `bin` to `over`.
 fn next_of(bin: usize, over: usize, place: usize) -> Spot
     ensures { λ r. ⌜ r ≡ nextOf bin over place ⌝ }
 {
@@ -254,7 +254,7 @@ fn next_of(bin: usize, over: usize, place: usize) -> Spot
     Spot { bin, place }
 }
 
-// The bytes for a cell at a place of a bin.
+// The bytes for a cell at a place of the bin from `bin` to `over`; 0 where that is not behind its header.
 fn left_in(bin: usize, over: usize, place: usize) -> usize
     requires { ⌜ bin + 32 ≤ over ⌝ }
     ensures { λ r. ⌜ r ≡ leftIn bin over place ⌝ }
@@ -268,7 +268,7 @@ fn left_in(bin: usize, over: usize, place: usize) -> usize
     over - place
 }
 
-// The cell at a place of a bin.
+// The cell at a place of the bin from `bin` to `over`.
 fn cell_in(bins: &[u8], bin: usize, over: usize, place: usize) -> Step
     requires { ⌜ bin + 32 ≤ over ⌝ }
     ensures { λ r. ⌜ stepPaper r ≡ cellIn (now (bins .entry)) bin over place ⌝ }

@@ -53,18 +53,18 @@ module _ {M : Type 1} (𝓤 : URA M) (H : Heap 𝓤) (A : Atoms 𝓤) (W : Given
   abbrev Entry : SProp 𝓤
   Entry = onEntry 𝓤 H A stand.signature (κ, tt) (q, tt) (s, (p, tt)) (held κ s p)
 
-  abbrev Post : Val → SProp 𝓤
-  Post = walkOf 𝓤 H A stand.ended stayed (stand.clauses 𝓤 H A mem run) .post (((κ, tt), (q, tt), tt, (s, (p, tt)), held κ s p), tt)
+  abbrev Exit : Val → SProp 𝓤
+  Exit = walkOf 𝓤 H A stand.ended stayed (stand.clauses 𝓤 H A mem run) .post (((κ, tt), (q, tt), tt, (s, (p, tt)), held κ s p), tt)
 
-  exits : ent 𝓤 Entry (Post (T′.lowered made))
-  exits =
+  leaves : ent 𝓤 Entry (Exit (T′.lowered made))
+  leaves =
       qed W ((‵ (flft κ q) ⊛ ‵ ftrue) ∷ ‵ (Held κ s p) ∷ []) ∵
       suffices ! _ (ends-at 𝓤 H A stand.ended stayed (stand.clauses 𝓤 H A mem run) W (((κ, tt), (q, tt), tt, (s, (p, tt)), held κ s p), tt) (T′.lowered made) made (tt, (tt, tt)) (tt, (tt, tt))) $
       says ! (refl, refl) $ frame ! $ use1 W (‵ (Held κ s p) ⊛ ‵ (Held κ s p)) (twice 𝓤 H A W κ s p) $ split ! $ frame ! $
       by ! (own-shut 𝓤 H A W (T.the-type (namedLft 1 0 tt (κ, tt))) (T′.the-laws (namedLft 1 0 tt (κ, tt))) (s, (p, tt)))
 
   module _ (C : Calls 𝓤 H) (Λ : Loops 𝓤 H) (is-bins : Is (ShrSlice (named 0) κ u8) s (sliceOf s ∷ [])) (is-spot : Is P.the-row p (P′.lowered p ∷ [])) where
-    walk : ent 𝓤 Entry (WpFn 𝓤 H C Λ code.function (sliceOf s ∷ P′.lowered p ∷ []) Post)
+    walk : ent 𝓤 Entry (WpFn 𝓤 H C Λ code.function (sliceOf s ∷ P′.lowered p ∷ []) Exit)
     walk =
         let bins = shr-slice-lawful 𝓤 H A W (named 0) κ u8 .typed s (sliceOf s ∷ []) is-bins .0 in
         let spot = LL.lawful P.the-type P′.the-laws 𝓤 H A W .typed p (P′.lowered p ∷ []) is-spot .0 in
@@ -74,25 +74,29 @@ module _ {M : Type 1} (𝓤 : URA M) (H : Heap 𝓤) (A : Atoms 𝓤) (W : Given
         assigns ! (agg ! (and-then ! (load ! (from ! (stop !)) (look ! 2 refl)) (and-then ! (load ! (from ! (stop !)) (look ! 0 refl)) (no-more !)))) (from ! (stop !))
         (init ! 4 refl (tt, (bins .1, (spot .1, tt)))) $
         returns ! (look ! 4 refl) $ forget ! 0 refl $ forget ! 2 refl $ forget ! 4 refl $
-        move ! (4 ∷ 5 ∷ []) $ free1 ! $ move ! (2 ∷ 3 ∷ []) $ free1 ! $ free1 ! $ free0 ! $ by ! exits)))
+        move ! (4 ∷ 5 ∷ []) $ free1 ! $ move ! (2 ∷ 3 ∷ []) $ free1 ! $ free1 ! $ free0 ! $ by ! leaves)))
 
-module _ {M : Type 1} (𝓤 : URA M) (H : Heap 𝓤) (A : Atoms 𝓤) (W : Given 𝓤 H A) (mem : Memory → SProp 𝓤) (run : Routine → Fun 𝓤) where
-  stand-walks : (C : Calls 𝓤 H) (Λ : Loops 𝓤 H) → Walks 𝓤 H A stand.ended stayed (WpFn 𝓤 H C Λ code.function) (stand.clauses 𝓤 H A mem run)
-  stand-walks C Λ =
-      walked 𝓤 H A stand.ended stayed (stand.clauses 𝓤 H A mem run) (WpFn 𝓤 H C Λ code.function)
+module _ {M : Type 1} (𝓤 : URA M) (H : Heap 𝓤) (A : Atoms 𝓤) (W : Given 𝓤 H A) (mem : Memory → SProp 𝓤) (run : Routine → Fun 𝓤) (𝓣 : Tables 𝓤 H) where
+  abbrev runs : List Val → (Val → SProp 𝓤) → SProp 𝓤
+  runs = WpFn 𝓤 H (𝓣 .C) (𝓣 .Λ) code.function
+
+  walks : Walks 𝓤 H A stand.ended stayed runs (stand.clauses 𝓤 H A mem run)
+  walks =
+      walked 𝓤 H A stand.ended stayed (stand.clauses 𝓤 H A mem run) runs
       (λ κs. (slice-vals, (LL.vals P.the-type P′.the-laws, tt)))
       (λ κs. (shr-slice-tells (named 0) (κs .0) u8, (LL.tells P.the-type P′.the-laws, tt)))
-      (λ κs qs bounds a g are. via 𝓤 _ (fst∗ 𝓤 _ (emp 𝓤)) (walk 𝓤 H A W mem run (κs .0) (qs .0) (a .0) (a .1 .0) C Λ (are .0) (are .1 .0)))
+      (λ κs qs bounds a g are.
+      via 𝓤 _ (fst∗ 𝓤 _ (emp 𝓤)) (walk 𝓤 H A W mem run (κs .0) (qs .0) (a .0) (a .1 .0) (𝓣 .C) (𝓣 .Λ) (are .0) (are .1 .0)))
 
-  stand-meets : (𝓣 : Tables 𝓤 H) → Meets 𝓤 H A stand.signature (WpFn 𝓤 H (𝓣 .C) (𝓣 .Λ) code.function) (stand.spec 𝓤 H A mem run)
-  stand-meets 𝓣 =
+  meets : Meets 𝓤 H A stand.signature runs (stand.spec 𝓤 H A mem run)
+  meets =
       walk-meets 𝓤 H A stand.ended stayed W
       (goes-none-slice 𝓤 H A W 1 (0 ∷ []) tt (plain (λ _. u8)) yes, (goes-none 𝓤 H A W 1 (λ _. P.the-row) yes (λ κs x f. refl), tt))
-      (stand.clauses 𝓤 H A mem run) (WpFn 𝓤 H (𝓣 .C) (𝓣 .Λ) code.function) (WpFn-mono 𝓤 H (W .laws) 𝓣 code.function) (stand-walks (𝓣 .C) (𝓣 .Λ))
+      (stand.clauses 𝓤 H A mem run) runs (WpFn-mono 𝓤 H (W .laws) 𝓣 code.function) walks
 
 pub stand-spec : {M : Type 1} → stated.statement M
 unfolding code.routine tablesOf
 stand-spec 𝓤 H 𝓜 𝓖 𝓡 =
     entered 𝓤 H (tripleOf 𝓤 H (𝓖 .A) stand.signature (stand.spec 𝓤 H (𝓖 .A) (𝓜 .mem) (𝓡 .run)))
     (tables 𝓤 H 𝓜 𝓡 code.env .C) (tables 𝓤 H 𝓜 𝓡 code.env .Λ) #stand code.function (code.unfolded 𝓤 H 𝓜 𝓡)
-    (stand-meets 𝓤 H (𝓖 .A) (givenOf 𝓤 H 𝓜 𝓖) (𝓜 .mem) (𝓡 .run) (tablesOf 𝓤 H 𝓜 (tables 𝓤 H 𝓜 𝓡 code.env)))
+    (meets 𝓤 H (𝓖 .A) (givenOf 𝓤 H 𝓜 𝓖) (𝓜 .mem) (𝓡 .run) (tablesOf 𝓤 H 𝓜 (tables 𝓤 H 𝓜 𝓡 code.env)))

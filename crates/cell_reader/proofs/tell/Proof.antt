@@ -92,8 +92,8 @@ module _ {M : Type 1} (𝓤 : URA M) (H : Heap 𝓤) (A : Atoms 𝓤) (W : Given
   abbrev Entry : SProp 𝓤
   Entry = onEntry 𝓤 H A tell.signature (κ, tt) (q, tt) (s, (p, tt)) (held κ s p)
 
-  abbrev Post : Val → SProp 𝓤
-  Post = walkOf 𝓤 H A tell.ended stayed (tell.clauses 𝓤 H A mem run) .post (((κ, tt), (q, tt), tt, (s, (p, tt)), held κ s p), tt)
+  abbrev Exit : Val → SProp 𝓤
+  Exit = walkOf 𝓤 H A tell.ended stayed (tell.clauses 𝓤 H A mem run) .post (((κ, tt), (q, tt), tt, (s, (p, tt)), held κ s p), tt)
 
   -- the call of `stand`
   abbrev to-stand : Stand 𝓤 H A mem run .Ghost
@@ -123,9 +123,9 @@ module _ {M : Type 1} (𝓤 : URA M) (H : Heap 𝓤) (A : Atoms 𝓤) (W : Given
   step-told : (d : CellReader) (r : Step) → ent 𝓤 (ensured 𝓤 H A step.ended (step.clauses 𝓤 H A mem run) (κ, tt) (d, tt) tt r) (fact 𝓤 (Told d r))
   step-told d r = exE 𝓤 _ (λ ws. snd∗ 𝓤 (sem 𝓤 H A (lasts step.ended (κ, tt) (d, tt) ws)) (fact 𝓤 (Told d r)))
 
-  exits : (r : Step) (u : Val) → stepPaper r ≡ stepAt (now s) p
-      → ent 𝓤 (⋆ 𝓤 H A (‵ (S.the-row .own r (u ∷ [])) ∷ (‵ (flft κ q) ⊛ ‵ ftrue) ∷ ‵ (Held κ s p) ∷ [])) (Post u)
-  exits r u e =
+  leaves : (r : Step) (u : Val) → stepPaper r ≡ stepAt (now s) p
+      → ent 𝓤 (⋆ 𝓤 H A (‵ (S.the-row .own r (u ∷ [])) ∷ (‵ (flft κ q) ⊛ ‵ ftrue) ∷ ‵ (Held κ s p) ∷ [])) (Exit u)
+  leaves r u e =
       qed W (‵ (S.the-row .own r (u ∷ [])) ∷ (‵ (flft κ q) ⊛ ‵ ftrue) ∷ ‵ (Held κ s p) ∷ []) ∵
       suffices ! _ (ends-at 𝓤 H A tell.ended stayed (tell.clauses 𝓤 H A mem run) W (((κ, tt), (q, tt), tt, (s, (p, tt)), held κ s p), tt) u r (tt, (tt, tt)) (tt, (tt, tt))) $
       says ! e $ move ! (1 ∷ []) $ frame ! $ move ! (1 ∷ []) $ frame ! $ done !
@@ -133,7 +133,7 @@ module _ {M : Type 1} (𝓤 : URA M) (H : Heap 𝓤) (A : Atoms 𝓤) (W : Given
   module _ (C : Calls 𝓤 H) (Λ : Loops 𝓤 H) (fm : FmC 𝓤 H (W .laws) C)
       (known-stand : Triple 𝓤 (C #stand) (Stand 𝓤 H A mem run)) (known-step : Triple 𝓤 (C #step) (StepOn 𝓤 H A mem run))
       (is-bins : Is (ShrSlice (named 0) κ u8) s (sliceOf s ∷ [])) (is-spot : Is P.the-row p (P′.lowered p ∷ [])) where
-    walk : ent 𝓤 Entry (WpFn 𝓤 H C Λ code.function (sliceOf s ∷ P′.lowered p ∷ []) Post)
+    walk : ent 𝓤 Entry (WpFn 𝓤 H C Λ code.function (sliceOf s ∷ P′.lowered p ∷ []) Exit)
     walk =
         let bins = shr-slice-lawful 𝓤 H A W (named 0) κ u8 .typed s (sliceOf s ∷ []) is-bins .0 in
         let spot = LL.lawful P.the-type P′.the-laws 𝓤 H A W .typed p (P′.lowered p ∷ []) is-spot .0 in
@@ -156,32 +156,32 @@ module _ {M : Type 1} (𝓤 : URA M) (H : Heap 𝓤) (A : Atoms 𝓤) (W : Given
         land ! (from ! (stop !)) (init ! 9 refl (EL.lawful S.the-type S′.the-laws 𝓤 H A W tt .typed r _ is′ .0)) $
         returns ! (look ! 9 refl) $ forget ! 3 refl $ forget ! 5 refl $ forget ! 7 refl $ forget ! 9 refl $
         move ! (9 ∷ 10 ∷ []) $ free1 ! $ move ! (7 ∷ 8 ∷ []) $ free1 ! $ move ! (5 ∷ 6 ∷ []) $ free1 ! $ move ! (3 ∷ 4 ∷ []) $ free1 ! $ free0 ! $
-        by ! (exits r w (told-there d r e f))))))))))))))
+        by ! (leaves r w (told-there d r e f))))))))))))))
 
-module _ {M : Type 1} (𝓤 : URA M) (H : Heap 𝓤) (A : Atoms 𝓤) (W : Given 𝓤 H A) (mem : Memory → SProp 𝓤) (run : Routine → Fun 𝓤) where
-  tell-walks : (C : Calls 𝓤 H) (Λ : Loops 𝓤 H) → FmC 𝓤 H (W .laws) C
-      → Triple 𝓤 (C #stand) (Stand 𝓤 H A mem run) → Triple 𝓤 (C #step) (StepOn 𝓤 H A mem run)
-      → Walks 𝓤 H A tell.ended stayed (WpFn 𝓤 H C Λ code.function) (tell.clauses 𝓤 H A mem run)
-  tell-walks C Λ fm known-stand known-step =
-      walked 𝓤 H A tell.ended stayed (tell.clauses 𝓤 H A mem run) (WpFn 𝓤 H C Λ code.function)
+module _ {M : Type 1} (𝓤 : URA M) (H : Heap 𝓤) (A : Atoms 𝓤) (W : Given 𝓤 H A) (mem : Memory → SProp 𝓤) (run : Routine → Fun 𝓤) (𝓣 : Tables 𝓤 H)
+    (known-stand : Triple 𝓤 (𝓣 .C #stand) (Stand 𝓤 H A mem run)) (known-step : Triple 𝓤 (𝓣 .C #step) (StepOn 𝓤 H A mem run)) where
+  abbrev runs : List Val → (Val → SProp 𝓤) → SProp 𝓤
+  runs = WpFn 𝓤 H (𝓣 .C) (𝓣 .Λ) code.function
+
+  walks : Walks 𝓤 H A tell.ended stayed runs (tell.clauses 𝓤 H A mem run)
+  walks =
+      walked 𝓤 H A tell.ended stayed (tell.clauses 𝓤 H A mem run) runs
       (λ κs. (slice-vals, (LL.vals P.the-type P′.the-laws, tt)))
       (λ κs. (shr-slice-tells (named 0) (κs .0) u8, (LL.tells P.the-type P′.the-laws, tt)))
       (λ κs qs bounds a g are.
-      via 𝓤 _ (fst∗ 𝓤 _ (emp 𝓤)) (walk 𝓤 H A W mem run (κs .0) (qs .0) (a .0) (a .1 .0) C Λ fm known-stand known-step (are .0) (are .1 .0)))
+      via 𝓤 _ (fst∗ 𝓤 _ (emp 𝓤)) (walk 𝓤 H A W mem run (κs .0) (qs .0) (a .0) (a .1 .0) (𝓣 .C) (𝓣 .Λ) (fmOf 𝓤 H (W .laws) 𝓣) known-stand known-step (are .0) (are .1 .0)))
 
-  tell-meets : (𝓣 : Tables 𝓤 H) → Triple 𝓤 (𝓣 .C #stand) (Stand 𝓤 H A mem run) → Triple 𝓤 (𝓣 .C #step) (StepOn 𝓤 H A mem run)
-      → Meets 𝓤 H A tell.signature (WpFn 𝓤 H (𝓣 .C) (𝓣 .Λ) code.function) (tell.spec 𝓤 H A mem run)
-  tell-meets 𝓣 known-stand known-step =
+  meets : Meets 𝓤 H A tell.signature runs (tell.spec 𝓤 H A mem run)
+  meets =
       walk-meets 𝓤 H A tell.ended stayed W
       (goes-none-slice 𝓤 H A W 1 (0 ∷ []) tt (plain (λ _. u8)) yes, (goes-none 𝓤 H A W 1 (λ _. P.the-row) yes (λ κs x f. refl), tt))
-      (tell.clauses 𝓤 H A mem run) (WpFn 𝓤 H (𝓣 .C) (𝓣 .Λ) code.function) (WpFn-mono 𝓤 H (W .laws) 𝓣 code.function)
-      (tell-walks (𝓣 .C) (𝓣 .Λ) (fmOf 𝓤 H (W .laws) 𝓣) known-stand known-step)
+      (tell.clauses 𝓤 H A mem run) runs (WpFn-mono 𝓤 H (W .laws) 𝓣 code.function) walks
 
 pub tell-spec : {M : Type 1} → stated.statement M
 unfolding code.routine tablesOf
 tell-spec 𝓤 H 𝓜 𝓖 𝓡 =
     entered 𝓤 H (tripleOf 𝓤 H (𝓖 .A) tell.signature (tell.spec 𝓤 H (𝓖 .A) (𝓜 .mem) (𝓡 .run)))
     (tables 𝓤 H 𝓜 𝓡 code.env .C) (tables 𝓤 H 𝓜 𝓡 code.env .Λ) #tell code.function (code.unfolded 𝓤 H 𝓜 𝓡)
-    (tell-meets 𝓤 H (𝓖 .A) (givenOf 𝓤 H 𝓜 𝓖) (𝓜 .mem) (𝓡 .run) (tablesOf 𝓤 H 𝓜 (tables 𝓤 H 𝓜 𝓡 code.env))
+    (meets 𝓤 H (𝓖 .A) (givenOf 𝓤 H 𝓜 𝓖) (𝓜 .mem) (𝓡 .run) (tablesOf 𝓤 H 𝓜 (tables 𝓤 H 𝓜 𝓡 code.env))
     (cited 𝓤 H (Stand 𝓤 H (𝓖 .A) (𝓜 .mem) (𝓡 .run)) 𝓜 𝓡 code.env #stand stand-def.routine code.calls-cell-reader·stand (stand-thm.met 𝓤 H 𝓜 𝓖 𝓡))
     (cited 𝓤 H (StepOn 𝓤 H (𝓖 .A) (𝓜 .mem) (𝓡 .run)) 𝓜 𝓡 code.env #step step-def.routine code.calls-cell-reader·step (step-thm.met 𝓤 H 𝓜 𝓖 𝓡)))

@@ -38,12 +38,9 @@ module _ (image : List ℕ) (base : ℕ) (c : Found) where
   keys-none e (success cs) = simp (sym e)
   keys-none e (refused f) = refl
 
--- ---- one position, by what the code has tested
+-- ---- a position that is listed, by what the code has tested
 
 module _ (n room position : ℕ) (old : List ℕ) (t : Bool) where
-  pub not-listed : t ≡ false → Noted n room t position old n old
-  not-listed e = rw e (record { count = refl; written = refl })
-
   pub listed-written : t ≡ true → n < room → Noted n room t position old (n + 1) (set old n position)
   listed-written e h = rw e (record { count = refl; written = simp (lt-ltb n room h) })
 

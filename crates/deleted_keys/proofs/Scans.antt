@@ -16,7 +16,7 @@ use Rattle.hive_bin.specs.declared.Step.{Step}
 use Rattle.hive_bin.specs.declared.Step.the-variants.{Cell, End, Refused}
 use Rattle.words.specs.declared.Refusal.{Refusal}
 use Rattle.hive_bin.specs.Walk.{Found, moved}
-use Rattle.hive_bin.specs.Steps.{start, stepAt, stepPaper}
+use Rattle.hive_bin.specs.Steps.{start, stepAt, foundIn, stepPaper}
 use Rattle.hive_bin.proofs.Stepping.{rest, Stands, stands-in, stands-start, Tells, Says, step-says, rest-all}
 use Rattle.deleted_keys.specs.declared.DeletedAnswer.{DeletedAnswer}
 use Rattle.deleted_keys.specs.declared.DeletedAnswer.the-variants.{Listed}
@@ -92,7 +92,7 @@ module _ (image : List ℕ) (base : ℕ) (b : List ℕ) (room : ℕ) (old : List
     says r e = subst (Says b (rest b s) (s .place)) (sym e) (step-says b s (so .stands))
 
     module _ (c : CellStep) (is : stepPaper (Cell c) ≡ stepAt b s) where
-      tells : Tells b (rest b s) (s .place) (record { place = c .place; size = c .size }) (c .next)
+      tells : Tells b (rest b s) (s .place) (foundIn c) (c .next)
       tells = says (Cell c) is
 
       -- the next spot lies further on, and within the bins
@@ -100,7 +100,7 @@ module _ (image : List ℕ) (base : ℕ) (b : List ℕ) (room : ℕ) (old : List
       further = let k = tells in (k .from, k .on, stands-in (k .stands) .1)
 
       -- a cell that is not listed, and one that is
-      passes : false ≡ isDeleted image (record { place = base + c .place; size = c .size }) → SoFar image base b room old (c .next) n out
+      passes : false ≡ isDeleted image (moved base (foundIn c)) → SoFar image base b room old (c .next) n out
       passes e =
           record {
             ks = so .ks;
@@ -113,7 +113,7 @@ module _ (image : List ℕ) (base : ℕ) (b : List ℕ) (room : ℕ) (old : List
             all = so .all;
           }
 
-      module _ (e : true ≡ isDeleted image (record { place = base + c .place; size = c .size })) where
+      module _ (e : true ≡ isDeleted image (moved base (foundIn c))) where
         abbrev p : ℕ
         p = base + c .place
 
@@ -152,7 +152,7 @@ module _ (image : List ℕ) (base : ℕ) (b : List ℕ) (room : ℕ) (old : List
               all = λ m. absurd (omega arith);
             }
 
-      pub goes : (t : Bool) → t ≡ isDeleted image (record { place = base + c .place; size = c .size }) → room ≤ length old
+      pub goes : (t : Bool) → t ≡ isDeleted image (moved base (foundIn c)) → room ≤ length old
           → {m : ℕ} {new : List ℕ} → Noted n room t (base + c .place) out m new → SoFar image base b room old (c .next) m new
       goes false e fits q = rw (q .count, q .written) (passes e)
       goes true e fits {m} {new} q = rw (q .count, q .written) (go (ltb n room) refl)

@@ -1,14 +1,14 @@
 -- What holds of every answer that the promise of `deleted_keys` allows. Assumes nothing.
-use Prim.Native.Nat.{ℕ, suc, _+_, _≤_, _<_}
+use Prim.Native.Nat.{ℕ, suc, _+_, _<_}
 use mathlib.Core.Path.{_≡_, refl, sym, ap, subst, _∙_}
-use mathlib.Core.Logic.{_↔_, _⊎_, inl, inr}
+use mathlib.Core.Logic.{_↔_, inl, inr}
 use mathlib.Core.List.{List, [], _∷_, map}
 use mathlib.Core.Bool.{Bool, true, false, cond, not, _&&_, false≢true}
 use native.Mathlib.Nat.{add-zero}
 use native.Mathlib.Omega.{arith}
 use lib.ListN.{length, take, drop}
 use lib.Dec.{ltb}
-use Rattle.words.specs.Refusals.{NO-ROOM, CUT-SHORT, BAD-BIN, BAD-CELL}
+use Rattle.words.specs.Refusals.{NO-ROOM, CUT-SHORT}
 use Rattle.words.specs.Paper.{Told, Paper, success, refused, tell, by, toldOfRoom, onSuccess}
 use Rattle.words.specs.Buffers.{needing}
 use Rattle.words.specs.declared.RoomRefusal.{RoomRefusal}
@@ -19,7 +19,7 @@ use Rattle.hive_bin.specs.Walk.{Found, Walk, found, fault, moved, shift, binsIn
 use Rattle.hive_bin.specs.Totals.{negative, answerOf, binsOf}
 use Rattle.hive_bin.specs.Steps.{cellsOf, places, Rising}
 use Rattle.hive_bin.proofs.Stepping.{rising-later, rising}
-use Rattle.hive_bin.proofs.Totals.{given}
+use Rattle.hive_bin.proofs.Totals.{OfBins, given}
 use Rattle.cell_key_node.specs.Key.{keyAt}
 use Rattle.cell_key_node.specs.declared.KeyNode.{KeyNode}
 use Rattle.deleted_keys.specs.declared.DeletedAnswer.the-variants.{Listed, Refused}
@@ -134,7 +134,7 @@ module _ (image : List ℕ) (base size : ℕ) where
   other-number : (t : Told) → binsOf image base size ≡ refused t → t .number ≡ NO-ROOM → ⊥
   other-number t e h = go (given image base size t e)
     where
-      go : (t .number ≡ CUT-SHORT) ⊎ ((BAD-BIN ≤ t .number) × (t .number ≤ BAD-CELL)) → ⊥
+      go : OfBins (t .number) → ⊥
       go (inl k) = omega arith
       go (inr k) = omega arith
 

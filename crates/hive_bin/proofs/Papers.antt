@@ -7,10 +7,10 @@ use Rattle.hive_bin.specs.declared.CellStep.{CellStep}
 use Rattle.hive_bin.specs.declared.Step.{Step}
 use Rattle.hive_bin.specs.declared.Step.the-variants.{Cell, End, Refused as NoStep}
 use Rattle.hive_bin.specs.Answers.{binsPaper}
-use Rattle.hive_bin.specs.Steps.{cell, stepPaper}
+use Rattle.hive_bin.specs.Steps.{cell, foundIn, stepPaper}
 use Rattle.hive_bin.proofs.Steps.{cell-end, same-cell}
 
-same-step : (c d : CellStep) → cell (record { place = c .place; size = c .size }) (c .next) ≡ cell (record { place = d .place; size = d .size }) (d .next) → c ≡ d
+same-step : (c d : CellStep) → cell (foundIn c) (c .next) ≡ cell (foundIn d) (d .next) → c ≡ d
 same-step c d e =
     let f = same-cell e in
     λ i. record { place = f .0 i .place; size = f .0 i .size; next = f .1 i }

@@ -17,7 +17,7 @@ use Rattle.hive_bin.specs.declared.Spot.{Spot}
 use Rattle.hive_bin.specs.declared.Step.{Step}
 use Rattle.hive_bin.specs.declared.Step.the-variants.{Cell, End, Refused}
 use Rattle.hive_bin.specs.Walk.{Found, Walk, found, fault, join, row, sizeWord, goodCell, cellRow, goodBin, binRow, binsIn}
-use Rattle.hive_bin.specs.Steps.{start, Stepped, cell, end, nextOf, cellIn, placeOf, stepAt, stepPaper, cellsOf, andOn, cellsBy, Keeps, TellsAll, places, Rising}
+use Rattle.hive_bin.specs.Steps.{start, Stepped, cell, end, nextOf, cellIn, placeOf, stepAt, foundIn, stepPaper, cellsOf, andOn, cellsBy, Keeps, TellsAll, places, Rising}
 use Rattle.hive_bin.proofs.Rows.{row-end, row-bad, row-more}
 use Rattle.hive_bin.proofs.Pieces.{cell-facts, cells-sound, bin-facts, bins-sound}
 use Rattle.hive_bin.proofs.Steps.{behind-header, next-bin, next-cell, at-start, not-at-start}
@@ -256,7 +256,7 @@ module _ (b : List ℕ) (step : Spot → Step) (keeps : Keeps b step) where
       → ((t : Spot) → Stands b t → s .place < t .place → on t ≡ rest b t) → andOn r on ≡ rest b s
   on-from s on (Cell c) k go =
       let l : s .place < c .next .place = omega (arith, k .from, k .on) in
-      ap (onSuccess (λ (cs : List Found). record { place = c .place; size = c .size } ∷ cs)) (go (c .next) (k .stands) l) ∙ sym (k .whole)
+      ap (onSuccess (λ (cs : List Found). foundIn c ∷ cs)) (go (c .next) (k .stands) l) ∙ sym (k .whole)
   on-from s on End k go = sym k
   on-from s on (Refused f) k go = sym (k .0)
 

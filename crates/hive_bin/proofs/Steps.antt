@@ -18,7 +18,7 @@ use Rattle.hive_bin.specs.declared.Spot.{Spot}
 use Rattle.hive_bin.specs.declared.CellStep.{CellStep}
 use Rattle.hive_bin.specs.declared.Step.the-variants.{Cell}
 use Rattle.hive_bin.specs.Walk.{Found, sizeWord, goodCell, cellRow, goodBin, binRow, cellSize, binSize}
-use Rattle.hive_bin.specs.Steps.{spot, Stepped, cell, end, nextOf, leftIn, cellIn, placeOf, atEnd, stepAt, stepPaper, InBin}
+use Rattle.hive_bin.specs.Steps.{spot, Stepped, cell, end, nextOf, leftIn, cellIn, placeOf, atEnd, stepAt, foundIn, stepPaper, InBin}
 use Rattle.hive_bin.proofs.Rows.{no-size, some-size}
 use Rattle.hive_bin.proofs.Pieces.{cell-facts, cells-sound, bins-sound, cell-size-held, bin-facts, no-bin, bin-size-held}
 
@@ -158,5 +158,5 @@ module _ (b : List ℕ) (s : Spot) (c : Found) (t : Spot) where
       go false false h f = absurd (refused-success f)
 
 -- of an answer that the promise of `step_at` allows
-pub told-in-bin : (b : List ℕ) (s : Spot) (c : CellStep) → stepPaper (Cell c) ≡ stepAt b s → InBin b s (record { place = c .place; size = c .size })
+pub told-in-bin : (b : List ℕ) (s : Spot) (c : CellStep) → stepPaper (Cell c) ≡ stepAt b s → InBin b s (foundIn c)
 told-in-bin b s c e = cell-in-bin b s _ (c .next) (sym e)

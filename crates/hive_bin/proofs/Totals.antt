@@ -21,6 +21,10 @@ use Rattle.hive_bin.specs.Totals.{allocatedSize, freeSize, sumOver, answ
 use Rattle.hive_bin.proofs.Sums.{Fills}
 use Rattle.hive_bin.proofs.Image.{cut-short, image-fills}
 
+-- the numbers that bins are refused by: 8, 10 and 11
+abbrev pub OfBins : ℕ → Type 0
+OfBins n = (n ≡ CUT-SHORT) ⊎ ((BAD-BIN ≤ n) × (n ≤ BAD-CELL))
+
 module _ (s : List ℕ) (base size : ℕ) where
   -- "Base plus size past the image: 8, never 2", at the base
   pub past : length s < base + size → (u : Told) → binsOf s base size ≡ refused u → u ≡ by CUT-SHORT base
@@ -31,18 +35,17 @@ module _ (s : List ℕ) (base size : ℕ) where
       → (base ≤ u .position) × (u .position < base + size) × ((BAD-BIN ≤ u .number) × (u .number ≤ BAD-CELL))
   within h u e = subst (Fills base size) e (image-fills s base size h)
 
-  -- the numbers that are given: 8, 10 and 11
-  pub given : (u : Told) → binsOf s base size ≡ refused u → (u .number ≡ CUT-SHORT) ⊎ ((BAD-BIN ≤ u .number) × (u .number ≤ BAD-CELL))
+  pub given : (u : Told) → binsOf s base size ≡ refused u → OfBins (u .number)
   given u e = go (ltb (length s) (base + size)) refl
     where
-      go : (b : Bool) → ltb (length s) (base + size) ≡ b → (u .number ≡ CUT-SHORT) ⊎ ((BAD-BIN ≤ u .number) × (u .number ≤ BAD-CELL))
+      go : (b : Bool) → ltb (length s) (base + size) ≡ b → OfBins (u .number)
       go true t = inl (ap (λ (v : Told). v .number) (past (ltb-true _ _ t) u e))
       go false t = inr (within (ltb-false _ _ t) u e .2)
 
   pub never-outside : (u : Told) → binsOf s base size ≡ refused u → u .number ≡ OUTSIDE → ⊥
   never-outside u e n = go (given u e)
     where
-      go : (u .number ≡ CUT-SHORT) ⊎ ((BAD-BIN ≤ u .number) × (u .number ≤ BAD-CELL)) → ⊥
+      go : OfBins (u .number) → ⊥
       go (inl k) = omega arith
       go (inr k) = omega arith
 

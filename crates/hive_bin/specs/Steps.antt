@@ -12,6 +12,7 @@ use Rattle.words.specs.Refusals.{BAD-BIN, BAD-CELL}
 use Rattle.words.specs.Words.{word32}
 use Rattle.words.specs.Paper.{Paper, success, refused, by, told, onSuccess}
 use Rattle.hive_bin.specs.declared.Spot.{Spot}
+use Rattle.hive_bin.specs.declared.CellStep.{CellStep}
 use Rattle.hive_bin.specs.declared.Step.{Step}
 use Rattle.hive_bin.specs.declared.Step.the-variants.{Cell, End, Refused}
 use Rattle.hive_bin.specs.Walk.{Found, Walk, found, fault, sizeWord, goodCell, goodBin, binsIn}
@@ -62,8 +63,11 @@ stepAt b s =
     (refused (by BAD-BIN (s .bin))))
 
 -- what the code's answer says
+abbrev pub foundIn : CellStep → Found
+foundIn c = record { place = c .place; size = c .size }
+
 abbrev pub stepPaper : Step → Paper Stepped
-stepPaper (Cell c) = success (cell (record { place = c .place; size = c .size }) (c .next))
+stepPaper (Cell c) = success (cell (foundIn c) (c .next))
 stepPaper End = success end
 stepPaper (Refused f) = refused (told f)
 
@@ -85,7 +89,7 @@ cellsOf (fault n p) = refused (by n p)
 
 -- what an answer tells and, where it is a cell, what is told from the next place on
 abbrev pub andOn : Step → (Spot → Paper (List Found)) → Paper (List Found)
-andOn (Cell c) on = onSuccess (λ (cs : List Found). record { place = c .place; size = c .size } ∷ cs) (on (c .next))
+andOn (Cell c) on = onSuccess (λ (cs : List Found). foundIn c ∷ cs) (on (c .next))
 andOn End on = success []
 andOn (Refused f) on = refused (told f)
 

@@ -416,10 +416,12 @@ def deleted_keys(image, base, size, out):
 # ---- "Name hash"
 
 def upper(x):
-    """ "97 to 122 and 224 to 254 except 247 are 32 less, 255 is 376, the others unchanged. Units of 256 and above are
-    unchanged." """
-    if 97 <= x <= 122 or 224 <= x <= 254 and x != 247:
+    """ "97 to 122 and 224 to 254 except 247 are 32 less, 255 is 376, the others unchanged." Document 02, order 5: "Document 01's upper
+    case is wrong above 255: units 1072 to 1103 become 32 less and 1104 to 1119 become 80 less." """
+    if 97 <= x <= 122 or 224 <= x <= 254 and x != 247 or 1072 <= x <= 1103:
         return x - 32
+    if 1104 <= x <= 1119:
+        return x - 80
     return 376 if x == 255 else x
 
 

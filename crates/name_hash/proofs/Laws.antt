@@ -9,11 +9,7 @@ use lib.ListN.{drop}
 use Rattle.words.specs.Words.{word16, little}
 use Rattle.words.proofs.Little.{little-drop}
 use Rattle.name_hash.specs.Hash.{hashOf}
-
--- the sum that is never reduced
-unfoldable pub exactOf : (ℕ → ℕ) → (ℕ → ℕ) → ℕ → ℕ
-exactOf upper f zero = 0
-exactOf upper f (suc n) = exactOf upper f n * 37 + upper (f n)
+use Rattle.name_hash.specs.Case.{exactOf}
 
 reduced : (x u : ℕ) → (x % 2 ^ 32 * 37 + u) % 2 ^ 32 ≡ (x * 37 + u) % 2 ^ 32
 reduced x u =
@@ -32,11 +28,12 @@ module _ (upper f : ℕ → ℕ) where
   hash-exact zero = refl
   hash-exact (suc n) = rw (hash-exact n) (reduced (exactOf upper f n) (upper (f n)))
 
--- two rules that agree on a name's characters give one hash
-pub hash-same : (upper upper′ f : ℕ → ℕ) (n : ℕ) → ((i : ℕ) → i < n → upper (f i) ≡ upper′ (f i)) → hashOf upper f n ≡ hashOf upper′ f n
+-- two rules and two names whose characters have the same upper case, each by its rule, give one hash
+pub hash-same : (upper upper′ f f′ : ℕ → ℕ) (n : ℕ) → ((i : ℕ) → i < n → upper (f i) ≡ upper′ (f′ i))
+    → hashOf upper f n ≡ hashOf upper′ f′ n
 unfolding hashOf
-hash-same upper upper′ f zero h = refl
-hash-same upper upper′ f (suc n) h = rw (hash-same upper upper′ f n (λ i l. h i (omega arith)), h n (omega arith))
+hash-same upper upper′ f f′ zero h = refl
+hash-same upper upper′ f f′ (suc n) h = rw (hash-same upper upper′ f f′ n (λ i l. h i (omega arith)), h n (omega arith))
 
 -- a unit stands at twice its number
 pub unit-at : (name : List ℕ) (i : ℕ) → word16 (drop i name) i ≡ word16 name (2 * i)

@@ -2,11 +2,9 @@
 -- and each entry of the made one is the rule's. Assumes nothing.
 use mathlib.Core.Path.{_≡_, sym, ap, _∙_}
 use mathlib.Core.List.{List, [], _∷_}
-use Prim.Native.Nat.{ℕ, zero, suc, _+_, _≤_, _<_}
+use Prim.Native.Nat.{ℕ, zero, suc, _+_, _<_}
 use native.Mathlib.Nat.{add-zero, zero-add, add-suc, suc-add, le-of-suc-le-suc, not-suc-le-zero}
-use native.Mathlib.Omega.{arith}
 use lib.ListN.{getD}
-use borrow.Author.Tests.{ne-eqb, lt-leb, le-leb}
 use Rattle.name_hash.specs.Characters.{upperOf}
 
 -- the n entries from i on
@@ -22,14 +20,3 @@ made-at (suc n) i (suc k) h = made-at n (suc i) k (le-of-suc-le-suc h) ∙ ap up
 
 pub ruled : (k : ℕ) → k < 256 → getD (made 256 0) k 0 ≡ upperOf k
 ruled k h = made-at 256 0 k h ∙ ap upperOf (zero-add k)
-
-pub unchanged : (x : ℕ) → 256 ≤ x → x ≡ upperOf x
-unfolding upperOf
-unchanged x h =
-    let a : 122 < x = omega arith in
-    let b : 254 < x = omega arith in
-    let d : x ≡ 247 → ⊥ = λ e. omega arith in
-    let f : x ≡ 255 → ⊥ = λ e. omega arith in
-    let g : 97 ≤ x = omega arith in
-    let k : 224 ≤ x = omega arith in
-    simp (le-leb _ _ g, le-leb _ _ k, lt-leb _ _ a, lt-leb _ _ b, ne-eqb _ _ d, ne-eqb _ _ f)

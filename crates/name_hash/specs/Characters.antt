@@ -8,13 +8,16 @@ use Rattle.words.specs.Words.{byteAt, word16}
 abbrev pub between : ℕ → ℕ → ℕ → Bool
 between a e x = cond (leb a x) (leb x e) false
 
--- "97 to 122 and 224 to 254 except 247 are 32 less, 255 is 376, the others unchanged. Units of 256 and above are unchanged."
+-- "97 to 122 and 224 to 254 except 247 are 32 less, 255 is 376, the others unchanged. Units 1072 to 1103 are 32 less and 1104 to 1119
+-- are 80 less; the other units of 256 and above are unchanged." The last sentence is document 02's, order 5 (docs/AMENDMENTS.md).
 unfoldable pub upperOf : ℕ → ℕ
 upperOf x =
     cond (between 97 122 x) (x - 32)
     (cond (eqb x 247) x
     (cond (between 224 254 x) (x - 32)
-    (cond (eqb x 255) 376 x)))
+    (cond (eqb x 255) 376
+    (cond (between 1072 1103 x) (x - 32)
+    (cond (between 1104 1119 x) (x - 80) x)))))
 
 -- "Characters are bytes, or 16-bit units": character i, by whether they are units
 abbrev pub characterOf : Bool → List ℕ → ℕ → ℕ

@@ -1,7 +1,7 @@
 // The hash of a key's name, as `lh` lists store it beside each key's offset.
 ghost use mathlib.Core.Path.{_≡_};
 ghost use Prim.Native.Nat.{_+_, _*_, _%_, _^_};
-ghost use Rattle.name_hash.specs.Characters.{upperOf, characterOf};
+ghost use Rattle.name_hash.specs.Characters.{between, upperOf, characterOf};
 ghost use Rattle.name_hash.specs.Hash.{hashOf, nameHashOf, hashPaper};
 use words::Refusal;
 
@@ -271,16 +271,28 @@ const UPPER: [u16; 256] = [
     376,
 ];
 
-// The upper-case character.
+// Whether a character lies in a range; both ends belong to it.
+fn between(first: u16, last: u16, character: u16) -> bool
+    ensures { λ r. ⌜ r ≡ between first last character ⌝ }
+{
+    first <= character && character <= last
+}
+
+// The upper-case character: below 256 the table's; above it the Cyrillic letters а to я are 32 less, ѐ to џ 80 less.
 fn upper(character: u16) -> u16
     ensures { λ r. ⌜ r ≡ upperOf character ⌝ }
 {
     if character < 256 {
         let at = character as usize;
-        UPPER[at]
-    } else {
-        character
+        return UPPER[at];
     }
+    if between(1072, 1103, character) {
+        return character - 32;
+    }
+    if between(1104, 1119, character) {
+        return character - 80;
+    }
+    character
 }
 
 // 37 times a hash, modulo 2^32.

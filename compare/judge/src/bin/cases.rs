@@ -909,6 +909,45 @@ fn stored(o: &mut Out<impl Write>, seed: u64, files: &[String], rust: bool) {
     any_keys(o, &mut Rng(seed), 8);
     o.one_in[23] = 6;
     hive_bins(o, &mut Rng(seed), files, 2);
+    letters(o);
+    any_letters(o, &mut Rng(seed), 100);
+}
+
+// ---- hashes of names with units above 255: the ends of the ranges that have an upper case, words, and `random` others
+
+/// both ends of the two ranges, of what they become and of the table, and the units beside them
+const ENDS: [u16; 21] = [254, 255, 256, 376, 1023, 1024, 1039, 1040, 1071, 1072, 1073, 1102, 1103, 1104, 1105, 1118, 1119, 1120, 1121, 1152, 1169];
+/// letters, and what stands beside letters, in a byte each
+const BYTES: [u16; 14] = [64, 65, 90, 91, 96, 97, 122, 123, 192, 215, 223, 224, 247, 254];
+const WORDS: [&str; 24] = [
+    "депо", "диспетчер", "терминал", "пост 7", "разъезд №3", "ёлка", "подъезд", "съёмка", "южный-восток", "щит эхо цех",
+    "ђак", "љубав", "њива", "џеп", "ѓум", "ќерка", "ѕвезда", "ѐ", "ѝ", "їжак", "єдність", "ўлада", "ґанок", "straße Київ ÿ",
+];
+
+fn units(name: &[u16]) -> Vec<u8> { name.iter().flat_map(|x| x.to_le_bytes()).collect() }
+
+fn letters(o: &mut Out<impl Write>) {
+    for x in ENDS {
+        for name in [vec![x], vec![x, 97], vec![122, x], vec![255, x, 65], vec![x, x, x]] { for flags in [0, 0xffdf, 0x20] { o.case(9, &[flags], Some(&units(&name))); } }
+        // half a unit behind it
+        for flags in [0, 0x20] { let mut m = units(&[x]); m.push(4); o.case(9, &[flags], Some(&m)); }
+        for y in BYTES { o.case(9, &[0], Some(&units(&[y, x]))); }
+        for y in ENDS { o.case(9, &[0], Some(&units(&[x, y]))); }
+    }
+    for word in WORDS { for word in [word.to_string(), word.to_uppercase(), word.to_lowercase()] {
+        let name: Vec<u16> = word.encode_utf16().collect();
+        o.case(9, &[0], Some(&units(&name)));
+        o.case(9, &[0x20], Some(&units(&name)));
+    } }
+}
+
+fn any_letters(o: &mut Out<impl Write>, r: &mut Rng, random: u64) {
+    for _ in 0..random {
+        let n = r.range(1, 24);
+        let name: Vec<u16> = (0..n).map(|_| match r.below(8) { 0 => r.pick(&BYTES), 1 => r.range(32, 255) as u16, 2 => r.pick(&ENDS), 3 => r.next() as u16, _ => r.range(1020, 1124) as u16 }).collect();
+        let flags = if r.chance(8) { r.next() as u16 } else { 0 };
+        o.case(9, &[flags as u32], Some(&units(&name)));
+    }
 }
 
 // ---- cells, and numbers written into a buffer: boundaries, and `random` others
@@ -1861,14 +1900,14 @@ fn main() {
     let to = BufWriter::with_capacity(1 << 16, std::io::stdout().lock());
     let mut o = Out::new(to, [1; TAGS], 0);
     match (args.first().map(|s| s.as_str()), number(0), number(1)) {
-        (Some("fixed"), _, _) => { boundaries(&mut o); fixed(&mut o); wide(&mut o); cells(&mut o, &mut Rng(0), 0); puts(&mut o, &mut Rng(0), 0); leaves(&mut o, &mut Rng(0), 0, 0); data_edges(&mut o, true); steps(&mut o, true); deleted(&mut o, true) }
+        (Some("fixed"), _, _) => { boundaries(&mut o); fixed(&mut o); wide(&mut o); cells(&mut o, &mut Rng(0), 0); puts(&mut o, &mut Rng(0), 0); leaves(&mut o, &mut Rng(0), 0, 0); data_edges(&mut o, true); steps(&mut o, true); deleted(&mut o, true); letters(&mut o) }
         (Some("hives"), _, Some(seed)) => { hives(&mut o, &mut Rng(seed), &args[2..], 12, 40); hive_bins(&mut o, &mut Rng(seed), &args[2..], 40) }
         (Some("stored"), _, Some(seed)) => stored(&mut o, seed, &args[2..], false),
         (Some("stored-rust"), _, Some(seed)) => {
             if args[2] != "-" { o.marked = Some(std::fs::read(&args[2]).expect("a list of marks")); }
             stored(&mut o, seed, &args[3..], true)
         }
-        (_, Some(seed), Some(n)) => { rounds(&mut o, &mut Rng(seed), n, USUAL); cells(&mut o, &mut Rng(seed), 10 * n); puts(&mut o, &mut Rng(seed), 10 * n); leaves(&mut o, &mut Rng(seed), n, USUAL.0); datas(&mut o, &mut Rng(seed), 4 * n); dropping(&mut o, &mut Rng(seed), n, USUAL.0); any_steps(&mut o, &mut Rng(seed), n); any_keys(&mut o, &mut Rng(seed), n) }
+        (_, Some(seed), Some(n)) => { rounds(&mut o, &mut Rng(seed), n, USUAL); cells(&mut o, &mut Rng(seed), 10 * n); puts(&mut o, &mut Rng(seed), 10 * n); leaves(&mut o, &mut Rng(seed), n, USUAL.0); datas(&mut o, &mut Rng(seed), 4 * n); dropping(&mut o, &mut Rng(seed), n, USUAL.0); any_steps(&mut o, &mut Rng(seed), n); any_keys(&mut o, &mut Rng(seed), n); any_letters(&mut o, &mut Rng(seed), 10 * n) }
         _ => { eprintln!("usage: cases fixed | hives SEED FILE.. | stored SEED FILE.. | stored-rust SEED MARKS FILE.. | SEED ROUNDS"); std::process::exit(2) }
     }
     o.to.flush().unwrap();

@@ -1,0 +1,14 @@
+use borrow.Author.Tests.{le-leb, lt-leb}
+use Rattle.name_hash.proofs.between.Statement.{statement}
+use Rattle.name_hash.proofs.between.Tie as tie
+use Rattle.name_hash.proofs.between.Reads as reads
+use Rattle.name_hash.proofs.between.Lts as lts
+
+returns : tie.Need-returns
+returns c = simp (le-leb _ _ (c .if1 .taken))
+
+returns-2 : tie.Need-returns-2
+returns-2 c = simp (lt-leb _ _ (c .if1 .left))
+
+pub between-spec : {M : Type 1} → statement M
+between-spec = tie.close (tie.spec returns returns-2)

@@ -3,7 +3,7 @@ use mathlib.Core.Path.{_≡_, refl}
 use mathlib.Core.List.{[], _∷_}
 use Rattle.words.specs.Paper.{success}
 use Rattle.words.specs.Words.{little}
-use Rattle.name_hash.specs.Characters.{upperOf}
+use Rattle.name_hash.specs.Characters.{between, upperOf}
 use Rattle.name_hash.specs.Hash.{hashOf, nameHashOf}
 use Rattle.name_hash.specs.Case.{upperBefore, Ends}
 
@@ -13,11 +13,11 @@ pub record Examples : Type 0 where
   pub two : nameHashOf 32 (97 ∷ 98 ∷ []) ≡ success 2471
 
 pub examples : Examples
-unfolding nameHashOf hashOf upperOf
+unfolding nameHashOf hashOf upperOf between
 examples = record { one = refl; two = refl }
 
 pub ends : Ends
-unfolding nameHashOf hashOf upperOf upperBefore little
+unfolding nameHashOf hashOf upperOf between upperBefore little
 ends =
     record {
       unit-1071 = refl;

@@ -5,7 +5,7 @@ use mathlib.Core.Bool.{Bool, true, false, cond}
 use lib.Dec.{leb, eqb}
 use Rattle.words.specs.Words.{byteAt, word16}
 
-abbrev pub between : ℕ → ℕ → ℕ → Bool
+unfoldable pub between : ℕ → ℕ → ℕ → Bool
 between a e x = cond (leb a x) (leb x e) false
 
 -- "97 to 122 and 224 to 254 except 247 are 32 less, 255 is 376, the others unchanged. Units 1072 to 1103 are 32 less and 1104 to 1119

@@ -1,3 +1,4 @@
+use Rattle.name_hash.specs.Characters.{between}
 use borrow.Author.Tests.{le-leb, lt-leb}
 use Rattle.name_hash.proofs.between.Statement.{statement}
 use Rattle.name_hash.proofs.between.Tie as tie
@@ -5,9 +6,11 @@ use Rattle.name_hash.proofs.between.Reads as reads
 use Rattle.name_hash.proofs.between.Lts as lts
 
 returns : tie.Need-returns
+unfolding between
 returns c = simp (le-leb _ _ (c .if1 .taken))
 
 returns-2 : tie.Need-returns-2
+unfolding between
 returns-2 c = simp (lt-leb _ _ (c .if1 .left))
 
 pub between-spec : {M : Type 1} → statement M

@@ -8,8 +8,9 @@ use Rattle.words.specs.Words.{byteAt, word16}
 unfoldable pub between : ℕ → ℕ → ℕ → Bool
 between a e x = cond (leb a x) (leb x e) false
 
--- "97 to 122 and 224 to 254 except 247 are 32 less, 255 is 376, the others unchanged. Units 1072 to 1103 are 32 less and 1104 to 1119
--- are 80 less; the other units of 256 and above are unchanged." The last sentence is document 02's, order 5 (docs/AMENDMENTS.md).
+-- "97 to 122 and 224 to 254 except 247 are 32 less, 255 is 376, the others unchanged." And in the place of 01's last sentence, by
+-- document 02, order 5 (docs/AMENDMENTS.md): "units 1072 to 1103 become 32 less and 1104 to 1119 become 80 less"; the other units of 256
+-- and above are unchanged.
 unfoldable pub upperOf : ℕ → ℕ
 upperOf x =
     cond (between 97 122 x) (x - 32)

@@ -8,7 +8,7 @@ use Rattle.words.specs.Words.{little, signed}
 use Rattle.words.specs.Refusals.{CUT-SHORT, BAD-CELL, NO-ROOM}
 use Rattle.words.specs.Paper.{success, refused, tell, by, checked, onSuccess}
 use Rattle.words.specs.Buffers.{inRoom}
-use Rattle.hive_bin.specs.Walk.{join, rowGo, row, goodCell, cellRow, goodBin, binRow, binsIn, shift, binsAt}
+use Rattle.hive_bin.specs.Walk.{join, rowGo, row, goodCell, cellRow, goodHeader, goodBin, binRow, binsIn, shift, binsAt}
 use Rattle.hive_bin.specs.Totals.{negative}
 use Rattle.hive_bin.specs.Steps.{cellsOf}
 use Rattle.cell_key_node.specs.Records.{sizeOf, cellFault, faultAt}
@@ -43,7 +43,7 @@ pub listed :
     × (deletedOf (eighty (small 80 0) 1) 16 4096 ≡ success [])
     × (deletedOf holding 16 4096 ≡ success [])
     × (succeeds (keyAt holding 56) ≡ true)
-unfolding deletedOf onSuccess cellsOf binsAt shift binsIn row rowGo binRow goodBin cellRow goodCell join little signed positionsOf isDeleted negative keyAt keyFault faultAt cellFault sizeOf checked
+unfolding deletedOf onSuccess cellsOf binsAt shift binsIn row rowGo binRow goodBin goodHeader cellRow goodCell join little signed positionsOf isDeleted negative keyAt keyFault faultAt cellFault sizeOf checked
 listed = (refl, refl, refl, refl, refl)
 
 -- no room for one; a cell of 76 bytes; bins that pass the image by a byte
@@ -51,5 +51,5 @@ pub not-listed :
     (listedOf (eighty (small 80 0) 0) 16 4096 0 ≡ refused (tell NO-ROOM 0 0 1 0 0))
     × (deletedOf (eighty (small 76 0) 0) 16 4096 ≡ refused (by BAD-CELL 48))
     × (deletedOf (eighty (small 80 0) 0) 17 4096 ≡ refused (by CUT-SHORT 17))
-unfolding listedOf inRoom deletedOf onSuccess cellsOf binsAt shift binsIn row rowGo binRow goodBin cellRow goodCell join little signed positionsOf isDeleted negative keyAt keyFault faultAt cellFault sizeOf checked
+unfolding listedOf inRoom deletedOf onSuccess cellsOf binsAt shift binsIn row rowGo binRow goodBin goodHeader cellRow goodCell join little signed positionsOf isDeleted negative keyAt keyFault faultAt cellFault sizeOf checked
 not-listed = (refl, refl, refl)

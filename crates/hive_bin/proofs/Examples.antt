@@ -7,7 +7,7 @@ use lib.IntN.{pos, negsuc}
 use Rattle.words.specs.Words.{little, word32, signed}
 use Rattle.words.specs.Refusals.{CUT-SHORT, BAD-BIN, BAD-CELL}
 use Rattle.words.specs.Paper.{success, refused, by}
-use Rattle.hive_bin.specs.Walk.{found, join, rowGo, row, goodCell, cellRow, hbin, goodBin, binRow, binsIn, shift, binsAt}
+use Rattle.hive_bin.specs.Walk.{found, join, rowGo, row, goodCell, cellRow, hbin, goodHeader, goodBin, binRow, binsIn, shift, binsAt}
 use Rattle.hive_bin.specs.Steps.{spot, start, cell, end, nextOf, leftIn, cellIn, atEnd, stepAt}
 use Rattle.hive_bin.specs.Totals.{negative, allocatedOne, freeOne, allocatedSize, freeSize, sumOver, answerOf, binsOf}
 
@@ -43,13 +43,13 @@ pub cells-found : binsIn listing ≡ found 1
     ∷ record { place = 232; size = negsuc 87 }
     ∷ record { place = 320; size = pos 3776 }
     ∷ [])
-unfolding binsIn row rowGo binRow goodBin cellRow goodCell join little signed
+unfolding binsIn row rowGo binRow goodBin goodHeader cellRow goodCell join little signed
 cells-found = refl
 
 -- "bins 1 4 1 288 3776": the bins of the example, behind its base block
 pub example : binsOf (replicate 4096 0 ++ listing) 4096 4096
     ≡ success (record { bins = 1; «allocated_cells» = 4; «free_cells» = 1; «allocated_bytes» = 288; «free_bytes» = 3776 })
-unfolding binsOf binsAt shift binsIn row rowGo binRow goodBin cellRow goodCell join little signed answerOf sumOver negative allocatedOne freeOne allocatedSize freeSize
+unfolding binsOf binsAt shift binsIn row rowGo binRow goodBin goodHeader cellRow goodCell join little signed answerOf sumOver negative allocatedOne freeOne allocatedSize freeSize
 example = refl
 
 -- "A bins size of 0 then succeeds with no bin", also where the base is the image's end; past it, 8 and never 2
@@ -68,26 +68,26 @@ one-byte-short = refl
 
 -- a bin whose own offset is another
 pub other-offset : binsOf (replicate 16 0 ++ head 8 ++ small 224 15 ++ replicate 4060 0) 16 4096 ≡ refused (by BAD-BIN 16)
-unfolding binsOf binsAt shift binsIn row rowGo binRow goodBin cellRow goodCell join little signed answerOf
+unfolding binsOf binsAt shift binsIn row rowGo binRow goodBin goodHeader cellRow goodCell join little signed answerOf
 other-offset = refl
 
 -- "also where the rest is too short for a header"
 pub short-rest : binsOf (replicate 31 0) 0 31 ≡ refused (by BAD-BIN 0)
-unfolding binsOf binsAt shift binsIn row rowGo binRow goodBin little answerOf
+unfolding binsOf binsAt shift binsIn row rowGo binRow goodBin goodHeader little answerOf
 short-rest = refl
 
 -- a cell of magnitude 4
 pub four-bytes : binsOf (head 0 ++ below 4 ++ replicate 4060 0) 0 4096 ≡ refused (by BAD-CELL 32)
-unfolding binsOf binsAt shift binsIn row rowGo binRow goodBin cellRow goodCell join little signed answerOf
+unfolding binsOf binsAt shift binsIn row rowGo binRow goodBin goodHeader cellRow goodCell join little signed answerOf
 four-bytes = refl
 
 -- ---- steps over these bins: the first cell; the last, behind which no bin follows; the end
 pub first-step : stepAt listing start ≡ success (cell (record { place = 32; size = negsuc 87 }) (spot 0 120))
-unfolding stepAt atEnd cellIn leftIn nextOf goodBin goodCell little signed
+unfolding stepAt atEnd cellIn leftIn nextOf goodBin goodHeader goodCell little signed
 first-step = refl
 
 pub last-step : stepAt listing (spot 0 320) ≡ success (cell (record { place = 320; size = pos 3776 }) (spot 4096 4096))
-unfolding stepAt atEnd cellIn leftIn nextOf goodBin goodCell little signed
+unfolding stepAt atEnd cellIn leftIn nextOf goodBin goodHeader goodCell little signed
 last-step = refl
 
 pub no-further : stepAt listing (spot 4096 4096) ≡ success end
@@ -96,19 +96,19 @@ no-further = refl
 
 -- from spots that no step leads to: in the header, within a cell, at the bin's end, and where no bin stands
 pub in-the-header : stepAt listing (spot 0 16) ≡ refused (by BAD-CELL 16)
-unfolding stepAt atEnd cellIn leftIn goodBin goodCell little signed
+unfolding stepAt atEnd cellIn leftIn goodBin goodHeader goodCell little signed
 in-the-header = refl
 
 pub within-a-cell : stepAt listing (spot 0 40) ≡ refused (by BAD-CELL 40)
-unfolding stepAt atEnd cellIn leftIn goodBin goodCell little signed
+unfolding stepAt atEnd cellIn leftIn goodBin goodHeader goodCell little signed
 within-a-cell = refl
 
 pub at-the-bins-end : stepAt listing (spot 0 4096) ≡ refused (by BAD-CELL 4096)
-unfolding stepAt atEnd cellIn leftIn goodBin goodCell little signed
+unfolding stepAt atEnd cellIn leftIn goodBin goodHeader goodCell little signed
 at-the-bins-end = refl
 
 pub no-bin-there : stepAt listing (spot 8 40) ≡ refused (by BAD-BIN 8)
-unfolding stepAt atEnd goodBin little
+unfolding stepAt atEnd goodBin goodHeader little
 no-bin-there = refl
 
 -- a second bin: behind the last cell of the first stands its header, which is none of its cells
@@ -116,5 +116,5 @@ abbrev two : List ℕ
 two = head 0 ++ small 224 15 ++ replicate 4060 0 ++ (104 ∷ 98 ∷ 105 ∷ 110 ∷ []) ++ small 0 16 ++ small 0 16 ++ replicate 20 0 ++ small 224 15 ++ replicate 4060 0
 
 pub over-the-header : stepAt two (spot 4096 4096) ≡ success (cell (record { place = 4128; size = pos 4064 }) (spot 8192 8192))
-unfolding stepAt atEnd cellIn leftIn nextOf goodBin goodCell little signed
+unfolding stepAt atEnd cellIn leftIn nextOf goodBin goodHeader goodCell little signed
 over-the-header = refl

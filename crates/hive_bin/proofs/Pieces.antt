@@ -17,9 +17,9 @@ use Rattle.hive_bin.specs.declared.BinTotals.{BinTotals}
 use Rattle.hive_bin.specs.declared.BinsAnswer.{BinsAnswer}
 use Rattle.hive_bin.specs.declared.BinsAnswer.the-variants.{Totals, Refused}
 use Rattle.hive_bin.specs.Answers.{binsPaper}
-use Rattle.hive_bin.specs.Walk.{row, sizeWord, goodCell, cellRow, hbin, goodBin, binRow, cellSize, binSize}
+use Rattle.hive_bin.specs.Walk.{row, sizeWord, goodCell, cellRow, hbin, goodHeader, goodBin, binRow, cellSize, headerSize, binSize}
 use Rattle.hive_bin.specs.Totals.{negative, allocatedOne, freeOne, allocatedSize, freeSize, sumOver, answerOf, oneBin, cellTotals, together, Room}
-use Rattle.hive_bin.proofs.Rows.{Sound, sizeAt, some-size}
+use Rattle.hive_bin.proofs.Rows.{Sound, sizeAt, some, none, some-size}
 use Rattle.hive_bin.proofs.Sums.{plus, answer-join, Fills, plus-fills, Whole, row-fills}
 
 and-true : (a b : Bool) → a && b ≡ true → (a ≡ true) × (b ≡ true)
@@ -49,6 +49,15 @@ module _ (z : ℤ) (left : ℕ) where
   pub cell-of : 0 < natAbs z → natAbs z % 8 ≡ 0 → natAbs z ≤ left → goodCell z left ≡ true
   unfolding goodCell
   cell-of h k l = simp (lt-ltb _ _ h, eq-eqb _ _ k, le-leb _ _ l)
+
+  -- the same by the size that was read
+  pub cell-none : cellSize z left ≡ 0 → goodCell z left ≡ false
+  unfolding cellSize
+  cell-none e = none (goodCell z left) (natAbs z) (λ g. cell-facts g .0) e
+
+  pub cell-some : {n : ℕ} → n ≡ cellSize z left → (n ≡ 0 → ⊥) → (goodCell z left ≡ true) × (natAbs z ≡ n)
+  unfolding cellSize
+  cell-some {n} e h = some (goodCell z left) (natAbs z) n (sym e) (omega arith)
 
 pub cells-sound : (b : List ℕ) → Sound (cellRow b)
 unfolding cellRow
@@ -99,38 +108,61 @@ module _ (b : List ℕ) (at : ℕ) {z : ℤ} (held : mag z < 2 ^ 31) (word : z �
 
 -- ---- bins
 
-module _ (b : List ℕ) (at left : ℕ) where
-  pub bin-facts : goodBin b at left ≡ true
-      → (32 ≤ left) × (word32 b at ≡ hbin) × (word32 b (at + 4) ≡ at)
-      × (0 < word32 b (at + 8)) × (word32 b (at + 8) % 4096 ≡ 0) × (word32 b (at + 8) ≤ left)
-  unfolding goodBin
-  bin-facts h =
-      let n = word32 b (at + 8) in
+module _ (sign own size at left : ℕ) where
+  pub header-facts : goodHeader sign own size at left ≡ true
+      → (32 ≤ left) × (sign ≡ hbin) × (own ≡ at) × (0 < size) × (size % 4096 ≡ 0) × (size ≤ left)
+  unfolding goodHeader
+  header-facts h =
       let t₁ = leb 32 left in
-      let t₂ = eqb (word32 b at) hbin in
-      let t₃ = eqb (word32 b (at + 4)) at in
-      let t₄ = ltb 0 n in
-      let t₅ = eqb (n % 4096) 0 in
-      let p₆ = and-true (t₁ && t₂ && t₃ && t₄ && t₅) (leb n left) h in
+      let t₂ = eqb sign hbin in
+      let t₃ = eqb own at in
+      let t₄ = ltb 0 size in
+      let t₅ = eqb (size % 4096) 0 in
+      let p₆ = and-true (t₁ && t₂ && t₃ && t₄ && t₅) (leb size left) h in
       let p₅ = and-true (t₁ && t₂ && t₃ && t₄) t₅ (p₆ .0) in
       let p₄ = and-true (t₁ && t₂ && t₃) t₄ (p₅ .0) in
       let p₃ = and-true (t₁ && t₂) t₃ (p₄ .0) in
       let p₂ = and-true t₁ t₂ (p₃ .0) in
       (leb-true _ _ (p₂ .0), eqb-true _ _ (p₂ .1), eqb-true _ _ (p₃ .1), ltb-true _ _ (p₄ .1), eqb-true _ _ (p₅ .1), leb-true _ _ (p₆ .1))
 
-  pub no-bin : (goodBin b at left ≡ true → ⊥) → 0 ≡ binSize b at left
-  unfolding binSize
-  no-bin h = zero-is (goodBin b at left) (word32 b (at + 8)) h
+  pub no-header : (goodHeader sign own size at left ≡ true → ⊥) → 0 ≡ headerSize sign own size at left
+  unfolding headerSize
+  no-header h = zero-is (goodHeader sign own size at left) size h
 
-  pub a-bin : (n : ℕ) → n ≡ word32 b (at + 8) → 32 ≤ left → word32 b at ≡ hbin → word32 b (at + 4) ≡ at → n % 4096 ≡ 0 → n ≤ left
-      → n ≡ binSize b at left
-  unfolding binSize goodBin
-  a-bin n e h₁ h₂ h₃ h₄ h₅ =
-      size-is (goodBin b at left) (word32 b (at + 8)) n e
+  pub a-header : (n : ℕ) → n ≡ size → 32 ≤ left → sign ≡ hbin → own ≡ at → n % 4096 ≡ 0 → n ≤ left → n ≡ headerSize sign own size at left
+  unfolding headerSize goodHeader
+  a-header n e h₁ h₂ h₃ h₄ h₅ =
+      size-is (goodHeader sign own size at left) size n e
       (λ h.
-      let h₆ : 0 < word32 b (at + 8) = omega arith in
-      let h₇ : word32 b (at + 8) ≤ left = omega arith in
-      simp (le-leb _ _ h₁, eq-eqb _ _ h₂, eq-eqb _ _ h₃, lt-ltb _ _ h₆, eq-eqb (word32 b (at + 8) % 4096) 0 (rw e at h₄), le-leb _ _ h₇))
+      let h₆ : 0 < size = omega arith in
+      let h₇ : size ≤ left = omega arith in
+      simp (le-leb _ _ h₁, eq-eqb _ _ h₂, eq-eqb _ _ h₃, lt-ltb _ _ h₆, eq-eqb (size % 4096) 0 (rw e at h₄), le-leb _ _ h₇))
+
+  -- the same by the size that was read
+  pub header-none : headerSize sign own size at left ≡ 0 → goodHeader sign own size at left ≡ false
+  unfolding headerSize
+  header-none e = none (goodHeader sign own size at left) size (λ g. header-facts g .3) e
+
+  pub header-some : {n : ℕ} → n ≡ headerSize sign own size at left → (n ≡ 0 → ⊥) → goodHeader sign own size at left ≡ true
+  unfolding headerSize
+  header-some {n} e h = some (goodHeader sign own size at left) size n (sym e) (omega arith) .0
+
+module _ (b : List ℕ) (at left : ℕ) where
+  pub bin-facts : goodBin b at left ≡ true
+      → (32 ≤ left) × (word32 b at ≡ hbin) × (word32 b (at + 4) ≡ at)
+      × (0 < word32 b (at + 8)) × (word32 b (at + 8) % 4096 ≡ 0) × (word32 b (at + 8) ≤ left)
+  unfolding goodBin
+  bin-facts = header-facts (word32 b at) (word32 b (at + 4)) (word32 b (at + 8)) at left
+
+  pub no-bin : (goodBin b at left ≡ true → ⊥) → 0 ≡ binSize b at left
+  unfolding binSize goodBin
+  no-bin = no-header (word32 b at) (word32 b (at + 4)) (word32 b (at + 8)) at left
+
+  -- by the words of its header that the code holds
+  pub a-bin : {sign own size n : ℕ} → sign ≡ word32 b at → own ≡ word32 b (at + 4) → size ≡ word32 b (at + 8)
+      → n ≡ headerSize sign own size at left → n ≡ binSize b at left
+  unfolding binSize
+  a-bin p q r e = rw (sym p, sym q, sym r) e
 
 pub bins-sound : (b : List ℕ) → Sound (binRow b)
 unfolding binRow
@@ -158,7 +190,7 @@ bins-fill b = row-fills (binRow b) (bins-sound b) (bins-whole b)
 -- the same from what the code holds: n is the size that it read
 module _ (b : List ℕ) (at left : ℕ) {n : ℕ} (size : n ≡ binSize b at left) where
   pub bin-size-held : sizeAt (binRow b) at left ≡ n
-  unfolding binSize binRow
+  unfolding binSize headerSize goodBin binRow
   bin-size-held = sym size
 
   pub bin-told : 0 < n → (32 ≤ n) × (n ≤ left) × (word32 b (at + 8) ≡ n)

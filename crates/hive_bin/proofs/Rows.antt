@@ -21,11 +21,12 @@ same-rest : (b : Bool) (left : ℕ) (v q x y : Walk) → (b ≡ true → x ≡ y
 same-rest true left v q x y h = rw (h refl)
 same-rest false left v q x y h = refl
 
-some : (g : Bool) (m n : ℕ) → cond g m 0 ≡ n → 0 < n → (g ≡ true) × (m ≡ n)
+-- the test from the size that was read, or 0
+pub some : (g : Bool) (m n : ℕ) → cond g m 0 ≡ n → 0 < n → (g ≡ true) × (m ≡ n)
 some true m n e h = (refl, e)
 some false m n e h = absurd (omega arith)
 
-none : (g : Bool) (m : ℕ) → (g ≡ true → 0 < m) → cond g m 0 ≡ 0 → g ≡ false
+pub none : (g : Bool) (m : ℕ) → (g ≡ true → 0 < m) → cond g m 0 ≡ 0 → g ≡ false
 none true m h e = absurd (let k = h refl in omega arith)
 none false m h e = refl
 

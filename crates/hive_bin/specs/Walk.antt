@@ -78,15 +78,13 @@ abbrev pub hbin : ℕ
 hbin = 0x6E69_6268
 
 -- "A bin has "hbin", its own relative offset at 4, its size at 8, a nonzero multiple of 4,096 within the rest; .. also where the rest
--- is too short for a header": at a place with `left` bytes to the end of the bins
+-- is too short for a header": the three words of a header, at a place with `left` bytes to the end of the bins
+unfoldable pub goodHeader : ℕ → ℕ → ℕ → ℕ → ℕ → Bool
+goodHeader sign own size at left =
+    leb 32 left && eqb sign hbin && eqb own at && ltb 0 size && eqb (size % 4096) 0 && leb size left
+
 unfoldable pub goodBin : List ℕ → ℕ → ℕ → Bool
-goodBin b at left =
-    leb 32 left
-    && eqb (word32 b at) hbin
-    && eqb (word32 b (at + 4)) at
-    && ltb 0 (word32 b (at + 8))
-    && eqb (word32 b (at + 8) % 4096) 0
-    && leb (word32 b (at + 8)) left
+goodBin b at left = goodHeader (word32 b at) (word32 b (at + 4)) (word32 b (at + 8)) at left
 
 -- "else 10"; "From its byte 32 cells fill it"; "Each bin is judged with its cells before the next"
 unfoldable pub binRow : List ℕ → Row
@@ -119,9 +117,12 @@ binsAt s base size = cond (ltb (length s) (base + size)) (fault CUT-SHORT base) 
 
 -- ---- what the code reads
 
--- the size of a cell, by its size word, and of a bin; 0 where there is none
+-- the size of a cell, by its size word, and of a bin, by its header; 0 where there is none
 unfoldable pub cellSize : ℤ → ℕ → ℕ
 cellSize z left = cond (goodCell z left) (natAbs z) 0
 
+unfoldable pub headerSize : ℕ → ℕ → ℕ → ℕ → ℕ → ℕ
+headerSize sign own size at left = cond (goodHeader sign own size at left) size 0
+
 unfoldable pub binSize : List ℕ → ℕ → ℕ → ℕ
-binSize b at left = cond (goodBin b at left) (word32 b (at + 8)) 0
+binSize b at left = headerSize (word32 b at) (word32 b (at + 4)) (word32 b (at + 8)) at left

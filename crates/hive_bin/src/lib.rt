@@ -2,7 +2,7 @@
 ghost use mathlib.Core.Path.{_≡_};
 ghost use Prim.Native.Nat.{_+_, _-_, _≤_};
 ghost use lib.ListN.{length};
-ghost use Rattle.hive_bin.specs.Walk.{row, cellRow, cellSize, binSize, binsIn};
+ghost use Rattle.hive_bin.specs.Walk.{row, cellRow, cellSize, headerSize, binSize, binsIn};
 ghost use Rattle.hive_bin.specs.Totals.{noTotals, oneBin, cellTotals, together, Room, answerOf, binsOf};
 ghost use Rattle.hive_bin.specs.Answers.{binsPaper};
 ghost use Rattle.hive_bin.specs.Steps.{nextOf, leftIn, cellIn, atEnd, stepAt, stepPaper};
@@ -63,7 +63,7 @@ fn no_totals() -> BinTotals
 }
 
 // Those of a bin without its cells.
-fn one_bin() -> BinTotals
+pub fn one_bin() -> BinTotals
     ensures { λ r. ⌜ r ≡ oneBin ⌝ }
 {
     BinTotals {
@@ -76,7 +76,7 @@ fn one_bin() -> BinTotals
 }
 
 // Those of a cell, by its size word: where that is negative the cell is allocated.
-fn cell_totals(word: i32) -> BinTotals
+pub fn cell_totals(word: i32) -> BinTotals
     ensures { λ r. ⌜ r ≡ cellTotals word ⌝ }
 {
     let size = words::magnitude(word) as usize;
@@ -114,7 +114,7 @@ fn sum(a: BinTotals, b: BinTotals) -> BinTotals
 }
 
 // The size of a cell by its size word, with `left` bytes to the end of its bin; 0 where the word is no cell's, as 0 itself.
-fn cell_size(word: i32, left: usize) -> usize
+pub fn cell_size(word: i32, left: usize) -> usize
     ensures { λ r. ⌜ r ≡ cellSize word left ⌝ }
 {
     let size = words::magnitude(word) as usize;
@@ -151,7 +151,32 @@ fn check_cells(bins: &[u8], at: usize, left: usize) -> BinsAnswer
     BinsAnswer::Totals(totals)
 }
 
-// The size of the bin at a place, with `left` bytes to the end of the bins; 0 where no bin stands there, also where its size is 0.
+// The size of the bin that begins at a place, by the three words of its header, with `left` bytes to the end of the bins; 0 where the words
+// are no bin's there, also where its size is 0.
+pub fn header_size(sign: u32, offset: u32, bytes: u32, at: usize, left: usize) -> usize
+    ensures { λ r. ⌜ r ≡ headerSize sign offset bytes at left ⌝ }
+{
+    if left < HEADER {
+        return 0;
+    }
+    if sign != HBIN {
+        return 0;
+    }
+    let own = offset as usize;
+    if own != at {
+        return 0;
+    }
+    let size = bytes as usize;
+    if size % 4096 != 0 {
+        return 0;
+    }
+    if left < size {
+        return 0;
+    }
+    size
+}
+
+// The size of the bin at a place, with `left` bytes to the end of the bins; 0 where no bin stands there.
 fn bin_size(bins: &[u8], at: usize, left: usize) -> usize
     requires { ⌜ at + left ≤ length (now bins) ⌝ }
     ensures { λ r. ⌜ r ≡ binSize (now (bins .entry)) at left ⌝ }
@@ -160,21 +185,9 @@ fn bin_size(bins: &[u8], at: usize, left: usize) -> usize
         return 0;
     }
     let sign = words::u32_at(bins, at);
-    if sign != HBIN {
-        return 0;
-    }
-    let own = words::u32_at(bins, at + 4) as usize;
-    if own != at {
-        return 0;
-    }
-    let size = words::u32_at(bins, at + 8) as usize;
-    if size % 4096 != 0 {
-        return 0;
-    }
-    if left < size {
-        return 0;
-    }
-    size
+    let own = words::u32_at(bins, at + 4);
+    let bytes = words::u32_at(bins, at + 8);
+    header_size(sign, own, bytes, at, left)
 }
 
 // The bins that a slice consists of, each with its cells before the next. Places count from its start.

@@ -54,8 +54,12 @@ NOT-FOUND = 16
 abbrev pub BAD-DATA : ℕ
 BAD-DATA = 17
 
+-- order 6: "18 PAST END"
+abbrev pub PAST-END : ℕ
+PAST-END = 18
+
 -- the table whole, in its order
 abbrev pub numbers : List ℕ
 numbers =
     SHORT ∷ OUTSIDE ∷ BAD-SIZE ∷ BAD-SIGN ∷ BAD-NAME ∷ NO-LIST ∷ TOO-MANY ∷ CUT-SHORT ∷ NO-ROOM ∷ BAD-BIN ∷ BAD-CELL ∷ TOO-LARGE ∷ BAD-BUDGET
-    ∷ TOO-DEEP ∷ OUT-OF-STEPS ∷ NOT-FOUND ∷ BAD-DATA ∷ []
+    ∷ TOO-DEEP ∷ OUT-OF-STEPS ∷ NOT-FOUND ∷ BAD-DATA ∷ PAST-END ∷ []

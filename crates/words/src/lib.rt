@@ -43,8 +43,10 @@ pub const NOT_FOUND: u32 = 16;
 
 pub const BAD_DATA: u32 = 17;
 
+pub const PAST_END: u32 = 18;
+
 // The table whole: each constant is the number that the definitions have under its name.
-fn refusal_numbers() -> [u32; 17]
+fn refusal_numbers() -> [u32; 18]
     ensures { λ r. ⌜ r ≡ numbers ⌝ }
 {
     [
@@ -65,6 +67,7 @@ fn refusal_numbers() -> [u32; 17]
         OUT_OF_STEPS,
         NOT_FOUND,
         BAD_DATA,
+        PAST_END,
     ]
 }
 

@@ -1,2 +1,4 @@
 pub mod Bytes
 pub mod Feeding
+pub mod Left
+pub mod Reached

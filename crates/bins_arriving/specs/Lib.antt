@@ -1,1 +1,2 @@
 pub mod Arriving
+pub mod Arrival

@@ -78,7 +78,7 @@ pub cell-adds : (b : List ℕ) (at : ℕ) → answerOf (cellRow b .piece at) ≡
 unfolding answerOf sumOver cellRow cellTotals
 cell-adds b at = simp add-zero
 
-cell-fills : (z : ℤ) (at : ℕ) → 0 < natAbs z → Fills at (natAbs z) (success (cellTotals z))
+pub cell-fills : (z : ℤ) (at : ℕ) → 0 < natAbs z → Fills at (natAbs z) (success (cellTotals z))
 unfolding cellTotals allocatedOne freeOne allocatedSize freeSize
 cell-fills z at h = go (negative z)
   where

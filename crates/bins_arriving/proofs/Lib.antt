@@ -2,3 +2,4 @@ pub mod Bytes
 pub mod Feeding
 pub mod Left
 pub mod Reached
+pub mod Arrives

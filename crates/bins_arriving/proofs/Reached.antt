@@ -118,8 +118,8 @@ module _ (from : ℕ) (c : List ℕ) where
       go true e =
           let f = short-facts s e in
           let l : left c (s .place) (s .over) ≡ refused (by BAD-BIN (s .place)) =
-              ap (left c (s .place)) (sym (f .1))
-              ∙ left-no-bin c (s .place) (omega (arith, o .size)) (no-bin-in (s .place) (omega (arith, o .size))) in
+          ap (left c (s .place)) (sym (f .1))
+          ∙ left-no-bin c (s .place) (omega (arith, o .size)) (no-bin-in (s .place) (omega (arith, o .size))) in
           record {
             taken = omega (arith, o .taken);
             place = s .place;

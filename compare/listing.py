@@ -1,6 +1,6 @@
 #!/usr/bin/env python3
 """Makes the hives of crates/hive_listing, crates/listing_cases and crates/deleted_listing, and what documents 01 and 02 say that the
-listings print of each.
+listings print of each, that of crates/bins_listing included, whose hive `compare/hives store` makes.
 
     compare/listing.py          (from the project's root)
 
@@ -15,14 +15,19 @@ BASE, BUDGET, ROOM, MOST = 4096, 1024, 4096, 65536
 DELETED_ROOM = 1024
 
 
-def base_line(image):
+def base_line(image, most=MOST):
     """ "`base`: sequences, version, raw type, root, bins size, stored and computed checksum (eight lower-case hex digits)." """
-    if len(image) > MOST:
+    if len(image) > most:
         raise paper.Refused(paper.TOO_LARGE)
     paper.base_block(image)
     u = lambda at: paper.unsigned(image, at, 4)
     return "base %d %d %d %d %d %d %d %08x %08x" % (
         u(4), u(8), u(20), u(24), u(28), paper.signed(image, 36), u(40), u(508), paper.checksum(image))
+
+
+def bins_line(totals):
+    """ "`bins`: bins, allocated and free cells, allocated and free bytes." """
+    return "bins %d %d %d %d %d" % tuple(totals)
 
 
 def listing(image):
@@ -33,8 +38,7 @@ def listing(image):
         lines.append(base_line(image))
         u = lambda at: paper.unsigned(image, at, 4)
         root, size = paper.signed(image, 36), u(40)
-        # "`bins`: bins, allocated and free cells, allocated and free bytes."
-        lines.append("bins %d %d %d %d %d" % tuple(paper.bins(image, BASE, size)))
+        lines.append(bins_line(paper.bins(image, BASE, size)))
         # 2: "for the program, also a negative root offset"
         if root < 0:
             raise paper.Refused(paper.OUTSIDE)
@@ -58,6 +62,44 @@ def deleted(image):
         positions = paper.deleted_keys(image, BASE, paper.unsigned(image, 40, 4), [0] * DELETED_ROOM)
         lines.append("deleted %d" % len(positions))
         lines += [str(x) for x in positions]
+    except paper.Refused as r:
+        lines.append("refused %d" % r.number)
+    return "".join(line + "\n" for line in lines)
+
+
+def refused_before(came, size):
+    """What is refused of bins that are cut short, by document 02, order 6: "A bin is judged once its 32 header bytes are in, a cell once
+    its 4, a rest too short for a header with the part that ends the bin before it or with the first part"; "8 is given only when the end
+    is declared early". Places count from the base; the rules are document 01's, of the whole check. """
+    at = 0
+    while at <= len(came):
+        if came and size - at < 32:
+            return paper.BAD_BIN
+        if len(came) < at + 32:
+            break
+        length = paper.bin_size(came, 0, at, size - at)
+        if length is None:
+            return paper.BAD_BIN
+        cell, over = at + 32, at + length
+        while cell < over and cell + 4 <= len(came):
+            word = paper.cell_word(came, cell, over)
+            if word is None:
+                return paper.BAD_CELL
+            cell += abs(word)
+        at = over
+    return paper.CUT_SHORT
+
+
+def bins_alone(image):
+    """Document 02, order 6, as `./list --bins` prints it: the base block's line and that of the bins, for a hive of any size; "the answer
+    is the one that the whole check gives on a complete hive with these bytes". """
+    lines = []
+    try:
+        lines.append(base_line(image, len(image)))
+        size = paper.unsigned(image, 40, 4)
+        if len(image) < BASE + size:
+            raise paper.Refused(refused_before(image[BASE:], size))
+        lines.append(bins_line(paper.bins(image, BASE, size)))
     except paper.Refused as r:
         lines.append("refused %d" % r.number)
     return "".join(line + "\n" for line in lines)
@@ -195,6 +237,8 @@ def main():
     hive = example().word(BASE + 144, 88)
     open(home + "/stdin", "wb").write(hive)
     open(home + "/stdout", "w").write(deleted(bytes(hive)))
+    home = "crates/bins_listing"
+    open(home + "/stdout", "w").write(bins_alone(open(home + "/stdin", "rb").read()))
     home = "crates/listing_cases"
     lines, calls = [], []
     for label, hive in hives():
@@ -205,4 +249,5 @@ def main():
     print("\n".join(calls))
 
 
-main()
+if __name__ == "__main__":
+    main()

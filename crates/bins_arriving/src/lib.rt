@@ -3,8 +3,9 @@
 ghost use mathlib.Core.Path.{_≡_};
 ghost use Prim.Native.Nat.{_+_, _-_, _≤_, _<_};
 ghost use lib.ListN.{length};
+ghost use Rattle.hive_bin.specs.Totals.{oneBin};
 ghost use Rattle.hive_bin.specs.Answers.{binsPaper};
-ghost use Rattle.bins_arriving.specs.Arriving.{upTo, added, begun, refuse, tooShort, settle, needed, put, judgeBin, judgeCell, header, eat, passable, pass, feed, partTaken, ended};
+ghost use Rattle.bins_arriving.specs.Arriving.{upTo, added, begun, refuse, tooShort, settle, put, judgeBin, judgeCell, header, eat, passable, pass, feed, partTaken, ended};
 use hive_bin::BinTotals;
 use hive_bin::BinsAnswer;
 use words::Refusal;
@@ -64,6 +65,19 @@ fn sum(a: BinTotals, b: BinTotals) -> BinTotals
         free_cells: add(a.free_cells, b.free_cells),
         allocated_bytes: add(a.allocated_bytes, b.allocated_bytes),
         free_bytes: add(a.free_bytes, b.free_bytes),
+    }
+}
+
+// Those of a bin without its cells.
+fn one_bin() -> BinTotals
+    ensures { λ r. ⌜ r ≡ oneBin ⌝ }
+{
+    BinTotals {
+        bins: 1,
+        allocated_cells: 0,
+        free_cells: 0,
+        allocated_bytes: 0,
+        free_bytes: 0,
     }
 }
 
@@ -167,7 +181,7 @@ fn bin(state: BinsSoFar, totals: BinTotals) -> BinsSoFar
         let position = position_of(state);
         return refuse_at(state, words::BAD_BIN, position);
     }
-    let more = sum(totals, hive_bin::one_bin());
+    let more = sum(totals, one_bin());
     BinsSoFar {
         base: state.base,
         size: state.size,
@@ -288,7 +302,7 @@ pub fn take_part(state: BinsSoFar, part: &[u8]) -> BinsSoFar
 {
     let answer = state.answer;
     match answer {
-        BinsAnswer::Refused(refusal) => state,
+        BinsAnswer::Refused(kept) => state,
         BinsAnswer::Totals(totals) => {
             let remaining = less(state.size, state.taken) as usize;
             if remaining < part.len() {

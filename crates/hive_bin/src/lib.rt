@@ -63,7 +63,7 @@ fn no_totals() -> BinTotals
 }
 
 // Those of a bin without its cells.
-pub fn one_bin() -> BinTotals
+fn one_bin() -> BinTotals
     ensures { λ r. ⌜ r ≡ oneBin ⌝ }
 {
     BinTotals {
@@ -166,14 +166,14 @@ pub fn header_size(sign: u32, offset: u32, bytes: u32, at: usize, left: usize) -
     if own != at {
         return 0;
     }
-    let size = bytes as usize;
-    if size % 4096 != 0 {
+    let whole = bytes as usize;
+    if whole % 4096 != 0 {
         return 0;
     }
-    if left < size {
+    if left < whole {
         return 0;
     }
-    size
+    whole
 }
 
 // The size of the bin at a place, with `left` bytes to the end of the bins; 0 where no bin stands there.

@@ -51,13 +51,13 @@ pub fn refused(n: u32) -> bool {
 }
 
 // What was read: so many bytes, and whether a read failed after them.
-struct Input {
-    bytes: usize,
-    failed: bool,
+pub struct Input {
+    pub bytes: usize,
+    pub failed: bool,
 }
 
 // One read.
-fn read_once(input: i32, rest: &mut [u8]) -> Input
+pub fn read_once(input: i32, rest: &mut [u8]) -> Input
     ensures { λ r. ⌜ Within (r .«bytes») (now (rest .exit)) ⌝ }
 {
     let got = libc::read(input, rest);
@@ -67,7 +67,7 @@ fn read_once(input: i32, rest: &mut [u8]) -> Input
 }
 
 // Reads until the image is full, the input ends or a read fails.
-fn read_input(input: i32, image: &mut [u8]) -> Input
+pub fn read_input(input: i32, image: &mut [u8]) -> Input
     ensures { λ r. ⌜ Within (r .«bytes») (now (image .exit)) ⌝ }
 {
     let mut bytes: usize = 0;

@@ -1,10 +1,10 @@
 // The listing: base block, bins, root key and walk in turn, up to the first refusal. What can be
 // read is decided in the libraries; here stand the order of the steps and the form of the lines.
 use super::console;
+use super::totals;
 use base_block::BlockAnswer;
 use cell_key_node::KeyAnswer;
 use cell_key_node::KeyNode;
-use hive_bin::BinTotals;
 use hive_bin::BinsAnswer;
 use sub_key_walk::Counts;
 use sub_key_walk::WalkAnswer;
@@ -13,16 +13,6 @@ use sub_key_walk::WalkAnswer;
 const BASE: u32 = 4096;
 
 const BUDGET: u32 = 1024;
-
-fn bins_line(t: BinTotals) -> bool {
-    console::text(b"bins")
-        & console::number(t.bins as u64)
-        & console::number(t.allocated_cells as u64)
-        & console::number(t.free_cells as u64)
-        & console::number(t.allocated_bytes as u64)
-        & console::number(t.free_bytes as u64)
-        & console::text(b"\n")
-}
 
 fn keys_line(c: Counts) -> bool {
     console::text(b"keys")
@@ -73,7 +63,7 @@ fn list_root(image: &[u8], offset: i32) -> bool {
 fn list_bins(image: &[u8], size: u32, root: i32) -> bool {
     match hive_bin::check_bins(image, BASE, size) {
         BinsAnswer::Refused(f) => console::refused(f.number),
-        BinsAnswer::Totals(t) => bins_line(t) & list_root(image, root),
+        BinsAnswer::Totals(t) => totals::bins_line(t) & list_root(image, root),
     }
 }
 

@@ -1,6 +1,7 @@
 // The listing of the hives in data/, one after another, each under its label: the modules are the listing program's own.
 mod console;
 mod listing;
+mod totals;
 
 fn case(label: &[u8]) {
     io::write_all(1, label);

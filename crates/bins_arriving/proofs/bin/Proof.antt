@@ -10,7 +10,7 @@ use Rattle.bins_arriving.proofs.position_of.Reads as position-of-reads
 use Rattle.bins_arriving.proofs.refuse_at.Reads as refuse-at-reads
 use Rattle.bins_arriving.proofs.sum.Reads as sum-reads
 use Rattle.hive_bin.proofs.header_size.Reads as header-size-reads
-use Rattle.hive_bin.proofs.one_bin.Reads as one-bin-reads
+use Rattle.bins_arriving.proofs.one_bin.Reads as one-bin-reads
 use Rattle.words.proofs.u32_at.Reads as u32-at-reads
 
 slice-aggregate-u32-at : tie.Need-slice-aggregate-u32-at

@@ -3,3 +3,4 @@ pub mod Feeding
 pub mod Left
 pub mod Reached
 pub mod Arrives
+pub mod Examples

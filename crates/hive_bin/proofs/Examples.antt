@@ -12,18 +12,18 @@ use Rattle.hive_bin.specs.Steps.{spot, start, cell, end, nextOf, leftIn,
 use Rattle.hive_bin.specs.Totals.{negative, allocatedOne, freeOne, allocatedSize, freeSize, sumOver, answerOf, binsOf}
 
 -- the four bytes of a word below 65,536, and of one from -256 to -1
-abbrev small : ℕ → ℕ → List ℕ
+abbrev pub small : ℕ → ℕ → List ℕ
 small low high = low ∷ high ∷ 0 ∷ 0 ∷ []
 
-abbrev below : ℕ → List ℕ
+abbrev pub below : ℕ → List ℕ
 below n = (256 - n) ∷ 255 ∷ 255 ∷ 255 ∷ []
 
 -- the header of a bin of 4,096 bytes, with its offset's lowest byte
-abbrev head : ℕ → List ℕ
+abbrev pub head : ℕ → List ℕ
 head own = (104 ∷ 98 ∷ 105 ∷ 110 ∷ []) ++ small own 0 ++ small 0 16 ++ replicate 20 0
 
 -- the cells of the listing example: -88 at 32, -24 at 120, -88 at 144 and at 232, and 3776 at 320
-abbrev listing : List ℕ
+abbrev pub listing : List ℕ
 listing =
     head 0
     ++ below 88 ++ replicate 84 0

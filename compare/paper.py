@@ -1,11 +1,12 @@
 #!/usr/bin/env python3
 """Document 01, and what has landed of document 02, read as a program, and nothing else: written from the papers, not from the Rust
-and not from the Rattle.
+and not from the Rattle (but for `SoFar`, a record that is the project's own).
 
     compare/paper.py < CASES > LINES
 
 reads a stream of cases and writes one whole line for each (compare/README.md). Each test stands in the order of the paper's
 sentences, which are quoted."""
+import bisect
 import functools
 import itertools
 import operator
@@ -14,8 +15,8 @@ import sys
 # "Refusal numbers"
 SHORT, OUTSIDE, BAD_SIZE, BAD_SIGN, BAD_NAME, NO_LIST, TOO_MANY, CUT_SHORT, NO_ROOM, BAD_BIN, BAD_CELL = range(1, 12)
 TOO_LARGE, BAD_BUDGET, TOO_DEEP, OUT_OF_STEPS, NOT_FOUND = range(12, 17)
-# document 02, order 1
-BAD_DATA = 17
+# document 02, orders 1 and 6
+BAD_DATA, PAST_END = 17, 18
 
 MOST_COUNT = 1_048_576
 MOST_BUDGET = 65_536
@@ -413,6 +414,185 @@ def deleted_keys(image, base, size, out):
     return found
 
 
+# ---- document 02, order 6: "Bins as they arrive"
+
+def judgements(joined, size):
+    """All that can be judged of bins of a size while these of their bytes are in, in order: of each judgement how many bytes are in when
+    it is made, and a bin (None), a cell by its size word, or the refusal, whose place counts from the base."""
+    at = 0
+    while at < size and at <= len(joined):
+        # "a rest too short for a header with the part that ends the bin before it or with the first part"
+        if size - at < 32:
+            yield at, Refused(BAD_BIN, at)
+            return
+        # "A bin is judged once its 32 header bytes are in"
+        if at + 32 > len(joined):
+            return
+        length = bin_size(joined, 0, at, size - at)
+        yield at + 32, Refused(BAD_BIN, at) if length is None else None
+        if length is None:
+            return
+        cell, at = at + 32, at + length
+        # "a cell once its 4"
+        while cell < at and cell + 4 <= len(joined):
+            word = cell_word(joined, cell, at)
+            yield cell + 4, Refused(BAD_CELL, cell) if word is None else word
+            if word is None:
+                return
+            cell += abs(word)
+        if cell < at:
+            return
+
+
+def with_one(totals, made):
+    """The totals with a bin or a cell more."""
+    bins_, used, free, used_bytes, free_bytes = totals
+    if made is None:
+        return bins_ + 1, used, free, used_bytes, free_bytes
+    return (bins_, used + 1, free, used_bytes - made, free_bytes) if made < 0 else (bins_, used, free + 1, used_bytes, free_bytes + made)
+
+
+def arriving(base, size, ends, image):
+    """ "The bin and cell check is to take the bins in consecutive parts, a part of no bytes included, with base and bins size given
+    first." The parts are told by where each of them ends in the image. Gives what each part without a refusal is answered, the bytes
+    that are in and the totals of what is judged; then the refusal of all others, or None; and the end's answer."""
+    # "18 PAST END, where a part exceeds what remains, given before any byte of that part is looked at"; position 0: "every number above 16"
+    within = bisect.bisect_right(ends, size)
+    joined = image[:ends[within - 1] if within else 0]
+    refusal = Refused(PAST_END) if within < len(ends) else None
+    made = list(judgements(joined, size))
+    whens = [when for when, _ in made]
+    if made and isinstance(made[-1][1], Refused):
+        # the refusal is the last that is judged, by the part with which its bytes are in; "After a refusal every later part gives the same"
+        when, fault = made.pop()
+        first = bisect.bisect_left(ends, when)
+        if first < within:
+            within, refusal = first, Refused(fault.number, base + fault.position)
+    totals = list(itertools.accumulate((what for _, what in made), with_one, initial=(0,) * 5))
+    good = [(end, *totals[bisect.bisect_right(whens, end)]) for end in ends[:within]]
+    if refusal is not None:
+        end = refusal
+    # "8 is given only when the end is declared early"; "the base for 8 on the bins"
+    elif len(joined) < size:
+        end = Refused(CUT_SHORT, base)
+    else:
+        end = list(totals[-1])
+    # "Where the joined bytes number exactly the bins size, or a bin or cell refusal comes before that, the answer is the one that the
+    # whole check gives on a complete hive with these bytes": what has not come is taken as zeros
+    if size <= IMAGE_MOST and (refusal is None and len(joined) == size or refusal is not None and refusal.number in (BAD_BIN, BAD_CELL)):
+        assert told_whole(end) == whole_check(base, size, joined)
+    return good, refusal, end
+
+
+def told_whole(end):
+    """An answer of the bins as its line has it."""
+    return ["refused", end.number, end.position] if isinstance(end, Refused) else ["ok"] + end
+
+
+def whole_check(base, size, joined):
+    """The whole check's answer on a hive with these bytes at the base, and zeros behind them up to the bins size. Before the base stand
+    zeros, and of a base too large for an image only the last 64, the positions being put right."""
+    before = base if base <= IMAGE_MOST else 64
+    try:
+        return ["ok"] + bins(bytes(before) + joined + bytes(size - len(joined)), before, size)
+    except Refused as r:
+        return ["refused", r.number, r.position + base - before]
+
+
+def row_of_parts(base, size, times, name, image):
+    # a row of lengths, so many times; a part that passes the image's end is what is left of it
+    lengths = [unsigned(name, 4 * i, 4) for i in range(len(name) // 4)] * times
+    ends = [min(end, len(image)) for end in itertools.accumulate(lengths)]
+    good, refusal, end = arriving(base, size, ends, image)
+    told = good + [(refusal.number, refusal.position)] * (len(ends) - len(good)) if refusal is not None else good
+    line = told_whole(end) + [len(ends), len(good)] + sums(list(itertools.chain.from_iterable(told)))
+    if len(ends) <= FEW:
+        for part in told:
+            line += ["part", "ok" if len(part) > 2 else "refused", *part]
+    return line
+
+
+class SoFar:
+    """The record between two parts, of any numbers. It is the project's own and in neither paper: what follows are the definitions of
+    crates/bins_arriving/specs/Arriving.antt, byte by byte. The answer is five totals, or a refusal's number and position."""
+
+    def __init__(self, base, size, taken, place, over, head, answer):
+        self.base, self.size, self.taken, self.place, self.over, self.head, self.answer = base, size, taken, place, over, bytearray(head), answer
+
+    def refused(self):
+        return len(self.answer) == 2
+
+    def settle(self):
+        if self.taken == self.place == self.over and 0 < self.size - self.place < 32:
+            self.answer = [BAD_BIN, self.base + self.place]
+
+    def add(self, more):
+        # "a sum of 64 bits, which stays at the largest"
+        self.answer = [min(x + y, 2 ** 64 - 1) for x, y in zip(self.answer, more)]
+
+    def judge_bin(self):
+        sign, own, size = (unsigned(self.head, at, 4) for at in (0, 4, 8))
+        left = max(self.size - self.place, 0)
+        if left >= 32 and sign == 0x6E696268 and own == self.place and size > 0 and size % 4096 == 0 and size <= left:
+            self.place, self.over = self.place + 32, self.place + size
+            self.add([1, 0, 0, 0, 0])
+        else:
+            self.answer = [BAD_BIN, self.base + self.place]
+
+    def judge_cell(self):
+        word = signed(self.head, 0)
+        size = abs(word)
+        if size > 0 and size % 8 == 0 and size <= max(self.over - self.place, 0):
+            self.place += size
+            self.add([0, 1, 0, size, 0] if word < 0 else [0, 0, 1, 0, size])
+        else:
+            self.answer = [BAD_CELL, self.base + self.place]
+
+    def eat(self, x):
+        if self.taken < self.place:
+            self.taken += 1
+        else:
+            at = self.taken - self.place
+            if at < 12:
+                self.head[at] = x
+            self.taken += 1
+            if self.taken - self.place >= (32 if self.place == self.over else 4):
+                if self.place == self.over:
+                    self.judge_bin()
+                else:
+                    self.judge_cell()
+        if not self.refused():
+            self.settle()
+
+    def part(self, part):
+        if self.refused():
+            return
+        if max(self.size - self.taken, 0) < len(part):
+            self.answer = [PAST_END, 0]
+            return
+        self.settle()
+        for x in part:
+            if self.refused():
+                return
+            self.eat(x)
+
+    def ended(self):
+        return [CUT_SHORT, self.base] if not self.refused() and self.taken < self.size else self.answer
+
+    @staticmethod
+    def told(answer):
+        return ["ok" if len(answer) > 2 else "refused"] + answer
+
+
+def one_part(words, name, part):
+    """A record of the case's five words and its name: twelve bytes of a header, a byte that is 0 for totals, and these, or the refusal."""
+    answer = [unsigned(name, 13 + 8 * i, 8) for i in range(5)] if unsigned(name, 12, 1) == 0 else [unsigned(name, 13, 4), unsigned(name, 17, 8)]
+    so_far = SoFar(*words, name[:12].ljust(12, b"\0"), answer)
+    so_far.part(part)
+    return (so_far.told(so_far.ended()) + [so_far.base, so_far.size, so_far.taken, so_far.place, so_far.over, hexed(so_far.head)]
+            + so_far.told(so_far.answer))
+
+
 # ---- "Name hash"
 
 def upper(x):
@@ -540,6 +720,7 @@ def put(out, at, width, number):
 # ---- the stream and the lines (compare/README.md)
 
 IMAGE_MOST, NAME_MOST, ROOM_MOST, BYTES_MOST, DATA_MOST, WIDE_MOST = 524_288, 65_536, 262_144, 32, 65_536, 8_192
+FEW = 4  # parts of a row that are written out
 PATCH, LENGTH = 100, 101
 
 
@@ -655,6 +836,10 @@ def answer(tag, a, b, c, d, e, name, image):
             return ["ok"] + summed(out[:len(found)]) + [untouched(out, len(found), wide_pattern)]
         except Refused as r:
             return ["refused", r.number, r.position, r.places, untouched(out, 0, wide_pattern)]
+    if tag == 26:
+        return row_of_parts(a, b, c, name, image)
+    if tag == 27:
+        return one_part((a, b, c, d, e), name, image)
     if tag == 6:
         return with_part(image, a, key_record, 2)
     if tag == 7:

@@ -1,20 +1,23 @@
 #!/usr/bin/env python3
 """compare/stored.py SEED HIVE..: what the stored cases are, for compare/STORED.md. Exit 1 where a refusal of a function, or a success or
-a refusal by 9 with entries dropped, is not among them."""
+a refusal by 9 with entries dropped, is not among them, or where bins in parts end in another answer than the whole check's."""
 import collections
 import os
 import sys
+
+import paper as reader
 
 NAMES = {1: "checksum", 2: "base block", 3: "`is_big_data_block`", 4: "value list", 5: "subkey walk", 6: "key record", 7: "value record",
          8: "lookup", 9: "name hash", 10: "bins and cells", 11: "one list", 12: "words", 13: "a record's value list",
          14: "a record's subkeys", 15: "a record's lookup", 16: "a leaf list", 17: "a walk's counts",
          18: "a cell", 19: "a number written", 20: "a record's counts", 21: "a value's data", 22: "a record's value data",
-         23: "a step of the reader", 24: "deleted keys", 25: "a step of the bins"}
+         23: "a step of the reader", 24: "deleted keys", 25: "a step of the bins", 26: "bins in parts", 27: "one part on a record"}
 # what documents 01 and 02 let each function be refused by
 REFUSALS = {1: [1], 2: [1, 4], 4: [2, 6, 7, 8, 9], 5: [2, 4, 7, 8, 9, 13, 14, 15], 6: [1, 2, 3, 4, 5], 7: [1, 2, 3, 4, 5],
             8: [1, 2, 3, 4, 5, 6, 7, 8, 16], 9: [5], 10: [8, 10, 11], 11: [2, 4, 8], 16: [2, 4, 8, 9],
             17: [2, 4, 7, 8, 13, 14, 15], 18: [2, 8], 20: [1, 2, 3, 4, 7, 8, 13, 15],
-            21: [2, 4, 8, 9, 17], 22: [1, 2, 3, 4, 5, 8, 9, 17], 23: [10, 11], 24: [8, 9, 10, 11], 25: [10, 11]}
+            21: [2, 4, 8, 9, 17], 22: [1, 2, 3, 4, 5, 8, 9, 17], 23: [10, 11], 24: [8, 9, 10, 11], 25: [10, 11],
+            26: [8, 10, 11, 18], 27: [8, 10, 11, 18]}
 # where an `ok` line of each function that drops entries tells how many; where a refusal by 9 does, and which of them have a buffer
 DROPPED, DROPPED_BY_9, WITH_ROOM = {5: 5, 14: 5, 16: 4, 17: 5, 20: 5}, 7, (5, 14, 16)
 
@@ -25,6 +28,30 @@ def counted(path):
         tag, answer, *rest = line.split()
         counts[int(tag)][f"{answer} {rest[0]}" if answer == "refused" else answer] += 1
     return counts
+
+
+def rows_of_parts(crate):
+    """Of the rows of parts of which none is past the end: how many have just the bins' bytes, how many others are refused by 10 or 11 (of a
+    size that an image can have), and of both how many end otherwise than the whole check on these bytes; how many have at least a part,
+    how many kinds of bytes, base and size these are, and how many of the kinds have more than one answer."""
+    whole = before = unequal = rows = 0
+    kinds = collections.defaultdict(set)
+    with open(f"crates/{crate}/stdin", "rb") as stdin, open(f"crates/{crate}/stdout") as stdout:
+        for (tag, base, size, times, _, _, name, image), line in zip(reader.cases(stdin.read), stdout):
+            parts = len(name) // 4 * times
+            come = min(times * sum(reader.unsigned(name, 4 * i, 4) for i in range(len(name) // 4)), len(image))
+            if tag != 26 or come > size:
+                continue
+            words = line.split()
+            end = words[1:7 if words[1] == "ok" else 4]
+            if come == size or end[1] in ("10", "11") and size <= reader.IMAGE_MOST:
+                whole += come == size
+                before += come < size
+                unequal += end != [str(x) for x in reader.whole_check(base, size, image[:come])]
+            if parts:
+                rows += 1
+                kinds[base, size, image[:come]].add(" ".join(end))
+    return whole, before, unequal, rows, len(kinds), sum(len(ends) > 1 for ends in kinds.values())
 
 
 def dropping(path):
@@ -52,12 +79,14 @@ def size(crate):
 
 
 seed, hives = sys.argv[1], [os.path.basename(h) for h in sys.argv[2:]]
-paper, rust = counted("crates/replay_paper/stdout"), counted("crates/replay_rust/stdout")
-missing = [(NAMES[t], n) for t, ns in REFUSALS.items() for n in ns if not paper[t][f"refused {n}"]]
+paper, parts, rust = (counted(f"crates/{crate}/stdout") for crate in ("replay_paper", "replay_parts", "replay_rust"))
+missing = [(NAMES[t], n) for t, ns in REFUSALS.items() for n in ns if not (parts if t in (26, 27) else paper)[t][f"refused {n}"]]
 drops = dropping("crates/replay_paper/stdout")
 missing += [(NAMES[t], f"{a}, dropped") for t, c in drops.items() for a in ("ok", "refused 9")[:2 if t in WITH_ROOM else 1] if not c[a]]
 tells = told("crates/replay_paper/stdout")
 missing += [(NAMES[t], a) for t, c in tells.items() for a in (("none", "one", "more") if t == 24 else ("cell", "end")) if not c[a]]
+whole, before, unequal, rows, kinds, undecided = rows_of_parts("replay_parts")
+missing += [("bins in parts", why) for why, bad in (("unequal to the whole check", unequal), ("with two answers", undecided), ("whole", not whole)) if bad]
 total = lambda counts: sum(sum(c.values()) for c in counts.values())
 print(f"""# The stored cases
 
@@ -72,14 +101,35 @@ copies (`hives`): {", ".join(hives)}.
 
 | Function | Cases | Success | Refused by number: cases |
 |---|---|---|---|""")
-for tag in sorted(paper):
-    c = paper[tag]
-    numbers = sorted((int(k.split()[1]), n) for k, n in c.items() if k.startswith("refused"))
-    print(f"| {NAMES[tag]} | {sum(c.values())} | {c['ok']} | {', '.join(f'{k}: {n}' for k, n in numbers)} |")
+
+
+def table(counts):
+    for tag in sorted(counts):
+        c = counts[tag]
+        numbers = sorted((int(k.split()[1]), n) for k, n in c.items() if k.startswith("refused"))
+        told = [f"{k}: {n}" for k, n in numbers if k in REFUSALS[tag]] if tag == 27 else [f"{k}: {n}" for k, n in numbers]
+        others = sum(c.values()) - c["ok"] - sum(n for k, n in numbers if tag != 27 or k in REFUSALS[tag])
+        print(f"| {NAMES[tag]} | {sum(c.values())} | {c['ok']} | {', '.join(told)}{f', any other: {others}' if others else ''} |")
+
+
+table(paper)
 dropped = [f"{NAMES[t]} {c['ok']}" + (f" and {c['refused 9']}" if c["refused 9"] else "") for t, c in drops.items()]
 print(f"""
 Entries are dropped in so many successes, and refusals by 9: {", ".join(dropped)}.
 A cell is told in {tells[23]["cell"]} steps of the reader, the end in {tells[23]["end"]}, and the same by the bins. Deleted keys: none in {tells[24]["none"]} lists, one in {tells[24]["one"]}, more in {tells[24]["more"]}.
+
+## crates/replay_parts: {total(parts):,} cases, {size("replay_parts") // 1000} KB, answers of compare/paper.py
+
+Bins as they arrive: the stored cases of "bins and cells" again, cut in parts, each rule on both sides, random and damaged bins, hives; and one
+part on records of any numbers, whose refusals may be of any number too. A program by itself, since `rt try`, by which `compare/slips` runs
+them, takes no more than a megabyte of output from one.
+
+| Function | Cases | Success | Refused by number: cases |
+|---|---|---|---|""")
+table(parts)
+print(f"""
+{whole:,} rows of parts have just the bins' bytes, and {before:,} others, of a size that an image can have, are refused by 10 or 11: each ends in the answer that the whole check gives on these bytes.
+{rows:,} rows with at least one part and none past the end have {kinds:,} different bytes, bases and sizes: whatever their cuts, all that are alike in these end in one answer.
 
 ## crates/replay_rust: {total(rust):,} cases, {size("replay_rust") // 1000} KB, the Rust's own answers
 
@@ -96,4 +146,4 @@ print()
 if missing:
     print("MISSING: " + ", ".join(f"{f} {n}" for f, n in missing))
     sys.exit(1)
-print(f"Every refusal of every function is among the {total(paper):,} cases.")
+print(f"Every refusal of every function is among the {total(paper):,} and {total(parts):,} cases.")

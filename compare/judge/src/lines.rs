@@ -95,6 +95,8 @@ fn function(tag: u32) -> &'static str {
         23 => "reader's step",
         24 => "deleted keys",
         25 => "bins' step",
+        26 => "bins in parts",
+        27 => "one part",
         _ => "?",
     }
 }

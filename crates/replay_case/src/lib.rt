@@ -63,7 +63,7 @@ pub fn renew(old: Case, mask: u8, news: &[u8]) -> Case
 }
 
 // The sums with one number more.
-fn more(sums: Sums, x: u64) -> Sums
+pub fn more(sums: Sums, x: u64) -> Sums
     ensures { λ r. ⌜ r ≡ oneMore sums x ⌝ }
 {
     let plain = std::num::wrapping_add_u64(sums.plain, x);

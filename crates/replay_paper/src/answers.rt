@@ -1,5 +1,7 @@
 // The functions of the project, each called with what a case gives it, and its answer written out.
 use super::lines;
+use super::lines::refused;
+use super::parts;
 use super::places;
 use base_block::BaseBlock;
 use base_block::BlockAnswer;
@@ -15,7 +17,6 @@ use cell_key_value::KeyValue;
 use cell_key_value::LookupAnswer;
 use cell_key_value::ValueAnswer;
 use deleted_keys::DeletedAnswer;
-use hive_bin::BinsAnswer;
 use hive_bin::Spot;
 use hive_bin::Step;
 use name_hash::HashAnswer;
@@ -25,17 +26,10 @@ use sub_key_walk::LeafAnswer;
 use sub_key_walk::WalkAnswer;
 use sub_key_walk::WalkRefusal;
 use value_data::DataAnswer;
-use words::Refusal;
 use words::RoomRefusal;
 
 fn size(n: usize) {
     lines::number(n as u64);
-}
-
-fn refused(refusal: Refusal) {
-    lines::text(b" refused");
-    lines::word(refusal.number);
-    size(refusal.position);
 }
 
 fn room_refused(refusal: RoomRefusal) {
@@ -357,20 +351,6 @@ fn hash(flags: u16, name: &[u8]) {
     }
 }
 
-fn bins(image: &[u8], base: u32, bins_size: u32) {
-    match hive_bin::check_bins(image, base, bins_size) {
-        BinsAnswer::Totals(totals) => {
-            lines::text(b" ok");
-            size(totals.bins);
-            size(totals.allocated_cells);
-            size(totals.free_cells);
-            size(totals.allocated_bytes);
-            size(totals.free_bytes);
-        }
-        BinsAnswer::Refused(refusal) => refused(refusal),
-    }
-}
-
 // A number of 64 bits, of two of a case's words.
 fn joined(low: u32, high: u32) -> usize {
     low as usize + 4294967296 * (high as usize)
@@ -575,7 +555,7 @@ pub fn answer(tag: u8, case: Case, image: &[u8], name: &[u8], out: &mut [u32]) {
         7 => value(image, case.a as usize),
         8 => lookup(image, case, name),
         9 => hash((case.a % 65536) as u16, image),
-        10 => bins(image, case.a, case.b),
+        10 => parts::bins_line(hive_bin::check_bins(image, case.a, case.b)),
         11 => list(image, case.a as usize),
         12 => words_at(image, case.a as usize),
         13 => with_room(tag, case, image, out, case.d),
@@ -591,6 +571,8 @@ pub fn answer(tag: u8, case: Case, image: &[u8], name: &[u8], out: &mut [u32]) {
         23 => step_line(cell_reader::tell(image, spot_of(case))),
         24 => with_wide(case, image),
         25 => step_line(hive_bin::step_at(image, spot_of(case))),
+        26 => parts::row_of_parts(case, image, name),
+        27 => parts::one_part(case, image, name),
         _ => lines::text(b" none"),
     }
 }

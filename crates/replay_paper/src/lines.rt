@@ -1,4 +1,5 @@
 // How values are written: each with a space before it.
+use words::Refusal;
 
 pub fn text(s: &[u8]) {
     io::write_all(1, s);
@@ -31,6 +32,12 @@ pub fn signed(z: i32) {
         text(b"-");
     }
     io::print_decimal(1, words::magnitude(z) as u64);
+}
+
+pub fn refused(refusal: Refusal) {
+    text(b" refused");
+    word(refusal.number);
+    number(refusal.position as u64);
 }
 
 // Two hex digits for each byte, `-` for none.

@@ -2,6 +2,7 @@
 // have the answers of document 01 as compare/paper.py reads it.
 mod answers;
 mod lines;
+mod parts;
 mod places;
 mod stream;
 

@@ -2,6 +2,7 @@
 //!   cases fixed > CASES                 boundaries, and short inputs exhaustively
 //!   cases hives SEED FILE.. > CASES     hives: all their records and lists, cuts and damaged copies
 //!   cases stored SEED FILE.. > CASES    a share of all of these, to be kept in the repository
+//!   cases stored-parts SEED FILE.. > CASES   the same of bins as they arrive, with each stored case of the whole check cut in parts
 //!   cases stored-rust SEED MARKS FILE.. > CASES   the same of what the Rust has; MARKS: a file with a 1 for each case to keep, 0
 //!                                       for each other, or `-` to keep all
 //!   cases SEED ROUNDS > CASES           random images rich in plausible lists and records, and damaged ones
@@ -38,7 +39,7 @@ impl Rng {
 
 const IMAGE_MOST: usize = 524_288;
 /// one more than the greatest tag of a case
-const TAGS: usize = 26;
+const TAGS: usize = 28;
 const ENOUGH: u32 = 1024;
 /// the greatest room for a value's data, and the bytes of it in one cell or one segment
 const DATA_MOST: u32 = 65_536;
@@ -68,12 +69,15 @@ struct Out<W: Write> {
     /// of the value records of hives, the data of one in so many is asked for
     data_one_in: usize,
     records: usize,
+    /// where the whole check's cases are to be cut in parts later: of each its base and bins size, and as many of the bins' bytes as there are
+    checked: Option<Vec<Checked>>,
     cases: u64,
 }
+type Checked = (u32, u32, Vec<u8>);
 impl<W: Write> Out<W> {
     fn new(to: W, one_in: [u64; TAGS], seed: u64) -> Self {
         let none = vec![0; IMAGE_MOST];
-        Out { to, words: [0; 5], name: vec![], has: none.clone(), has_length: 0, want: none, want_length: 0, changed: 0..0, one_in, pick: Rng(seed), marked: None, taken: 0, counted: None, data_one_in: 1, records: 0, cases: 0 }
+        Out { to, words: [0; 5], name: vec![], has: none.clone(), has_length: 0, want: none, want_length: 0, changed: 0..0, one_in, pick: Rng(seed), marked: None, taken: 0, counted: None, data_one_in: 1, records: 0, checked: None, cases: 0 }
     }
     fn put(&mut self, tag: u8, words: [u32; 5], name: Option<&[u8]>, image: Option<&[u8]>) {
         let mut mask = 0u8;
@@ -145,7 +149,15 @@ impl<W: Write> Out<W> {
         let mut w = self.words;
         w[..words.len()].copy_from_slice(words);
         self.written(tag, w, None);
+        if tag == 10 && self.checked.is_some() { self.note(words[0], words[1]); }
         true
+    }
+    /// A case of the whole check, to be cut in parts later: one of each kind.
+    fn note(&mut self, base: u32, size: u32) {
+        let (from, to) = (base as usize, base as usize + size as usize);
+        let bytes = if from < self.want_length { self.want[from..to.min(self.want_length)].to_vec() } else { vec![] };
+        let one = (base, size, bytes);
+        if let Some(checked) = &mut self.checked { if !checked.contains(&one) { checked.push(one); } }
     }
     fn image(&mut self, image: &[u8]) { self.bytes(0, image); self.length(image.len()); }
     fn patch(&mut self, at: usize, bytes: &[u8]) { self.bytes(at, bytes); }
@@ -181,6 +193,25 @@ impl<W: Write> Out<W> {
     fn deleted(&mut self, base: u32, size: u32, room: u32) {
         let [_, _, c, d, _] = self.words;
         self.case(24, &[base, size, c, d, room], None);
+    }
+    /// The image's bytes as bins that arrive: parts of these lengths, so many times over.
+    fn parts(&mut self, base: u32, size: u32, times: u32, lengths: &[u32]) {
+        let name: Vec<u8> = lengths.iter().flat_map(|x| x.to_le_bytes()).collect();
+        self.named(26, &[base, size, times], &name);
+    }
+    /// The whole image in parts of these lengths, the last one shorter where they do not come out even; an empty image as one row of them.
+    fn whole_in(&mut self, base: u32, size: u32, lengths: &[u32]) {
+        let times = (self.want_length as u32).div_ceil(lengths.iter().sum::<u32>().max(1)).max(1);
+        self.parts(base, size, times, lengths);
+    }
+    /// One part on a record: its words (base, size, taken, place, over), what is kept of a header, and its answer.
+    fn on_record(&mut self, words: [u32; 5], head: &[u8; 12], answer: Told) {
+        let mut name = head.to_vec();
+        match answer {
+            Told::Totals(totals) => { name.push(0); for x in totals { name.extend(x.to_le_bytes()); } }
+            Told::Refused(kind, number, position) => { name.push(kind); name.extend(number.to_le_bytes()); name.extend(position.to_le_bytes()); }
+        }
+        self.named(27, &words, &name);
     }
     fn lookup(&mut self, count: u32, offset: u32, base: u32, name: &[u8]) { self.named(8, &[count, offset, base], name); }
     fn named(&mut self, tag: u8, words: &[u32], name: &[u8]) {
@@ -913,6 +944,19 @@ fn stored(o: &mut Out<impl Write>, seed: u64, files: &[String], rust: bool) {
     any_letters(o, &mut Rng(seed), 100);
 }
 
+/// The samples about bins as they arrive, which are stored by themselves: among them each case of the whole check that is stored.
+fn stored_parts(o: &mut Out<impl Write>, seed: u64, files: &[String]) {
+    let mut others = Out::new(std::io::sink(), [1; TAGS], 0);
+    others.checked = Some(vec![]);
+    stored(&mut others, seed, files, false);
+    again(o, &mut Rng(seed), others.checked.unwrap_or_default());
+    arriving(o, false);
+    records_between(o, false);
+    any_parts(o, &mut Rng(seed), 20);
+    hive_parts(o, &mut Rng(seed), files, 3);
+    short_names(o);
+}
+
 // ---- hashes of names with units above 255: the ends of the ranges that have an upper case, words, and `random` others
 
 /// both ends of the two ranges, of what they become and of the table, and the units beside them
@@ -1400,6 +1444,287 @@ fn hive_bins(o: &mut Out<impl Write>, r: &mut Rng, files: &[String], copies: usi
         for &(bin, at) in &cells { o.step(bin as u64, at as u64); if at == bin + 32 { o.step(bin as u64, bin as u64); } }
         o.step(lent.len() as u64, lent.len() as u64);
         for _ in 0..4 * copies { any_step(o, r, lent, &cells); }
+    }
+}
+
+// ---- bins as they arrive
+
+/// The answer of a record between two parts: totals, or a refusal and the byte, not 0, that says so.
+#[derive(Clone, Copy)]
+enum Told { Totals([u64; 5]), Refused(u8, u32, u64) }
+
+/// the lengths of parts that everything is cut in
+const CUTS: [u32; 8] = [1, 3, 4, 7, 31, 32, 33, 4096];
+
+/// Random lengths of parts, some of them 0, that make up so many bytes.
+fn any_cut(r: &mut Rng, bytes: usize) -> Vec<u32> {
+    let (mut lengths, mut left) = (vec![], bytes);
+    while left > 0 && lengths.len() < 40 {
+        let most = if r.chance(3) { left } else { left.min(r.pick(&[1, 4, 8, 33, 100, 1000])) };
+        let n = if r.chance(5) { 0 } else { r.range(1, most) };
+        lengths.push(n as u32);
+        left -= n;
+    }
+    lengths.push(left as u32);
+    if r.chance(3) { lengths.push(0); }
+    lengths
+}
+
+/// The cases of the whole check again, each in parts of one length after another, with empty parts between, and at random.
+fn again(o: &mut Out<impl Write>, r: &mut Rng, checked: Vec<Checked>) {
+    for (i, (base, size, bytes)) in checked.iter().enumerate() {
+        o.image(bytes);
+        for (j, &each) in CUTS.iter().enumerate() {
+            match (i + j) % 4 { 0 => o.whole_in(*base, *size, &[each, 0]), 1 => o.whole_in(*base, *size, &[0, each]), _ => o.whole_in(*base, *size, &[each]) }
+        }
+        for _ in 0..2 { let lengths = any_cut(r, bytes.len()); o.parts(*base, *size, 1, &lengths); }
+    }
+}
+
+/// Each rule on both sides. `more`: what is too much of the same to be stored.
+fn arriving(o: &mut Out<impl Write>, more: bool) {
+    let all = |o: &mut Out<_>, base: u32, size: u32, rows: &[&[u32]]| for lengths in rows { o.parts(base, size, 1, lengths); };
+    // no part, and empty ones; parts that are all there is, and one byte more; the rest too short at the start
+    let m = bins_of(0, &[(4096, &[8, -16, 88]), (8192, &[-8152]), (4096, &[-4064])]);
+    o.image(&m);
+    for base in [0, 7, u32::MAX] {
+        for size in [0u32, 1, 2, 4, 30, 31, 32, 33, 4095, 4096, 4097, 4127, 4128, u32::MAX] {
+            all(o, base, size, &[&[], &[0], &[0, 0], &[1], &[0, 1], &[1, 0], &[size], &[size, 0], &[0, size], &[size, 1], &[size, 0, 1, 0], &[size.saturating_sub(1)], &[size.saturating_sub(1), 1], &[size.saturating_sub(1), 2],
+                &[size.saturating_add(1)], &[0, size.saturating_add(1)], &[size.saturating_add(1), 0, size]]);
+        }
+    }
+    o.parts(0, 4096, 0, &[4096]);
+    for size in [0, 31, 4096] { all(o, 3, size, &[&[u32::MAX], &[m.len() as u32, u32::MAX], &[1, u32::MAX, 1]]); }
+    // the end after each byte: in one part, and in small ones
+    let hive = example()[4096..].to_vec();
+    o.image(&hive);
+    let near = |n: usize| more || n <= 400 || n >= 3996 || n % 97 == 0;
+    for n in 0..=4096u32 { if near(n as usize) { o.parts(4096, 4096, 1, &[n]); } }
+    for n in (0..=150).chain([319, 320, 323, 324, 325, 4088, 4095, 4096]) {
+        o.length(n);
+        for lengths in [&[1][..], &[7, 0], &[32], &[5, 27]] { if more || n % 3 == 0 || n >= 150 { o.whole_in(4096, 4096, lengths); } }
+    }
+    // the same in two bins: around the second one's header and its first cell
+    let two = bins_of(0, &[(4096, &[-4064]), (4096, &[16, -24, 8])]);
+    o.image(&two);
+    for n in 4080..=4160u32 { all(o, 12, 8192, &[&[n], &[4096.min(n), n.max(4096) - 4096]]); if more { for k in 1..40 { o.parts(12, 8192, 1, &[n - k, k]); } } }
+    // a fault of each kind, and the end on both sides of the byte at which it is judged; parts behind it, and 18 before and after it
+    let mut faults: Vec<Fault> = vec![(0, b"hbix".to_vec()), (0, vec![0]), (3, vec![0]), (4, vec![1]), (7, vec![128]), (8, vec![1]), (9, vec![0]), (9, vec![0x30]), (11, vec![255])];
+    for word in [0, 4, 12, -4, 4072, -4072, 7, i32::MIN, i32::MAX] { faults.push((32, signed(word).to_vec())); }
+    for (at, word) in [(4128usize, 0), (4128, 4072), (4144, 4), (4144, -4096), (4168, 20), (4176, 0), (4176, 3928)] { faults.push((at, signed(word).to_vec())); }
+    for at in [4096usize, 4100, 4104] { faults.push((at, vec![two[at] ^ 1])); }
+    faults.push((4105, vec![0x20]));
+    for (at, bytes) in faults {
+        o.image(&two);
+        o.patch(at, &bytes);
+        let start = match at { 0..=11 => 0, 4096..=4107 => 4096, _ => at as u32 };
+        let due = start + if start % 4096 == 0 { 32 } else { 4 };
+        for base in [0, u32::MAX - 4000].into_iter().take(if more { 2 } else { 1 }) {
+            all(o, base, 8192, &[&[due - 1], &[due], &[due - 1, 1], &[due - 1, 0, 1, 5], &[due, 0, 1, 9000], &[start, 0, due - start], &[start, due - start - 1, 1], &[8191], &[8192], &[8192, 1], &[due - 1, 8193 - due], &[due - 1, 8194 - due], &[start, 8193 - start]]);
+            if more { for each in CUTS { o.whole_in(base, 8192, &[each]); o.whole_in(base, 8192, &[0, each, 0]); } }
+        }
+        // a byte too long, and longer, with the fault inside
+        let mut long = two.clone();
+        long.extend([0; 40]);
+        o.image(&long);
+        o.patch(at, &bytes);
+        all(o, 5, 8192, &[&[8193], &[start, 8193 - start], &[due - 1, 8194 - due], &[due - 1, 8193 - due, 1], &[due, 8193 - due], &[4096, 4097], &[0, 8232], &[start, 8193 - start, 1, 0]]);
+        all(o, 5, due - 1, &[&[due], &[start, due - start]]);
+    }
+    // a rest too short behind a bin
+    let mut rest = bins_of(0, &[(4096, &[24, -4040])]);
+    rest.extend([0; 40]);
+    for sign in [&b"hbin"[..], b"\0\0\0\0"] {
+        o.image(&rest);
+        o.patch(4096, sign);
+        for over in [0u32, 1, 2, 4, 12, 30, 31, 32, 33, 36] {
+            let size = 4096 + over;
+            all(o, 64, size, &[&[4095], &[4095, 0], &[4095, 1], &[4095, 1, 0], &[4095, 2], &[4096], &[4096, 0], &[0, 4096, over], &[4096, over, 0], &[4096, over + 1], &[4095, over + 1], &[4095, over + 2], &[size], &[size + 1], &[4055, 41, 1]]);
+            if more { for each in CUTS { o.length(size as usize); o.whole_in(64, size, &[each]); o.length(rest.len()); } }
+        }
+    }
+    // parts after a good row, and in it
+    o.image(&two);
+    for lengths in [&[8192u32, 0][..], &[8192, 0, 0], &[4096, 4096], &[4096, 0, 4096, 0], &[32, 4064, 32, 4064], &[31, 1, 3, 1, 4060, 31, 1, 3, 1, 12, 4, 20, 4024], &[0, 8191, 1], &[36, 4056, 4, 100, 4036 - 40]] { o.parts(9, 8192, 1, lengths); }
+    for each in CUTS { for lengths in [&[each][..], &[each, 0], &[0, 0, each]] { o.whole_in(9, 8192, lengths); } }
+    if more {
+        // every cut in two, and every header cut in three
+        for n in 0..=8192 { o.parts(9, 8192, 1, &[n, 8192 - n]); }
+        for start in [0u32, 4096] { for a in 0..=36 { for b in 0..=36 { o.parts(9, 8192, 1, &[start + a, b, 8192 - start - a - b]); } } }
+        // bins up to the greatest image
+        let m = bins_of(0, &[(4096, &[-8, 4048][..]); IMAGE_MOST / 4096]);
+        o.image(&m);
+        for each in [4096, 4095, 4097, 65536, 1 << 19, 32, 33] { o.whole_in(4096, IMAGE_MOST as u32, &[each]); }
+    }
+}
+
+/// One part on records of any numbers, most of which no row of parts leads to. `more`: what is too much of the same to be stored.
+fn records_between(o: &mut Out<impl Write>, more: bool) {
+    const TOP: u64 = u64::MAX;
+    let header = |own: u32, size: u32| -> [u8; 12] { let mut h = [0u8; 12]; bin_header(&mut h, 0, own as usize, size as usize); h };
+    let cell = |word: i32| -> [u8; 12] { let mut h = [0x5a; 12]; h[..4].copy_from_slice(&signed(word)); h };
+    let zero = Told::Totals([0; 5]);
+    // the part: a bin's header and its cells
+    let m = bins_of(0, &[(4096, &[8, -16, 88])]);
+    // places of any kind
+    let places = if more { &[0u32, 1, 3, 4, 12, 31, 32, 33, 36, 40, 4064, 4095, 4096, 4097, 8191, 8192, 8193, u32::MAX - 32, u32::MAX][..] } else { &[0, 4, 31, 32, 40, 4096, 8192, u32::MAX] };
+    for n in if more { &[0usize, 1, 2, 4, 32, 36, 100][..] } else { &[0, 1, 36] } {
+        o.image(&m[..*n]);
+        for &taken in places { for &place in places { for &over in places {
+            if !more && (taken as usize / 7 + place as usize / 3 + over as usize + n) % 3 != 0 && place != over && taken != place { continue; }
+            o.on_record([7, 8192, taken, place, over], &header(place, 4096), zero);
+            if more { o.on_record([u32::MAX, place.wrapping_add(20), taken, place, over], &cell(-16), zero); }
+        } } }
+    }
+    // sizes around what is taken, and around the place
+    for n in [0usize, 1, 32] {
+        o.image(&m[..n]);
+        for taken in [0u32, 31, 32, 4096, u32::MAX] {
+            for size in [0, taken.saturating_sub(1), taken, taken.saturating_add(1), taken.saturating_add(31), taken.saturating_add(32), taken.saturating_add(33), u32::MAX] {
+                for (place, over) in [(taken, taken), (taken, taken.saturating_add(8)), (taken.saturating_sub(31), taken.saturating_sub(31)), (taken.saturating_sub(3), taken), (taken.saturating_add(1), taken.saturating_add(1))] {
+                    o.on_record([1 << 31, size, taken, place, over], &header(place, 4096), zero);
+                }
+            }
+        }
+    }
+    // a header of which one byte is awaited: each of its words on both sides; and a cell's
+    o.image(&m[..1]);
+    for (place, size) in [(0u32, 4096u32), (4096, 12288), (4096, 4096 + 33), (1 << 20, u32::MAX)] {
+        for own in [place, place + 1, place.wrapping_sub(1), 0] { for bytes in [0, 1, 32, 4095, 4096, 4097, 8192, size - place, (size - place) & !4095, ((size - place) & !4095).wrapping_add(4096), u32::MAX & !4095] {
+            o.on_record([40, size, place + 31, place, place], &header(own, bytes), zero);
+        } }
+        for at in 0..4 { let mut h = header(place, 4096); h[at] ^= 0x20; o.on_record([40, size, place + 31, place, place], &h, zero); }
+    }
+    // the fourth byte is the part's
+    for last in [0u8, 255, 1, 128] {
+        o.image(&[last]);
+        for left in [0u32, 1, 4, 7, 8, 16, 24, 4064, 1 << 24] { for word in [0, 8, 16, 24, 4064, 4, 12, -8, -16, -24, -4064, -4, 1 << 24, -1] {
+            if !more && left > 24 && word % 16 != 0 { continue; }
+            o.on_record([3, 1 << 30, 4096 + 3, 4096, 4096 + left], &cell(word), zero);
+        } }
+    }
+    // more of a header than there can be
+    for n in [1usize, 40] {
+        o.image(&m[..n]);
+        for have in [4u32, 5, 11, 12, 13, 16, 31, 32, 33, 40, 100, 4096, 1 << 31] { for over in [0u32, 8, 96] {
+            o.on_record([0, u32::MAX, 64 + have, 64, 64 + over], &header(64, 4096), zero);
+            o.on_record([0, 64 + have + 40, 64 + have, 64, 64 + over], &cell(-88), zero);
+        } }
+    }
+    // totals at and near the largest: a bin, a cell of each kind
+    for top in [TOP, TOP - 1, TOP - 7, TOP - 8, TOP - 15, TOP - 16, TOP - 17, 1 << 63, (1 << 32) - 1] {
+        for i in 0..6 {
+            let totals: [u64; 5] = std::array::from_fn(|k| if k == i || i == 5 { top } else { k as u64 });
+            o.image(&m[..1]);
+            o.on_record([0, 8192, 31, 0, 0], &header(0, 4096), Told::Totals(totals));
+            for (last, word) in [(0u8, 16), (255, -16i32)] { o.image(&[last]); o.on_record([0, 8192, 99, 96, 4096], &cell(word), Told::Totals(totals)); }
+            o.image(&[]);
+            for taken in [8191, 8192] { o.on_record([0, 8192, taken, 8192, 8192], &[9; 12], Told::Totals(totals)); }
+        }
+    }
+    // refusals of any number and position: they stay
+    for n in [0usize, 1, 200] {
+        o.image(&m[..n]);
+        for number in [0u32, 8, 10, 11, 18, 99, u32::MAX] { for position in [0, 7, 1 << 32, TOP] { for kind in [1, 255] {
+            if !more && (kind == 255) != (position == 7) { continue; }
+            o.on_record([1, 2, 3, 4, 5], b"abcdefghijkl", Told::Refused(kind, number, position));
+            o.on_record([0, 4096, 0, 0, 0], &[0; 12], Told::Refused(kind, number, position));
+        } } }
+    }
+    // whole bins on records within a row, and on others
+    o.image(&m);
+    for (taken, place, over) in [(0u32, 0u32, 0u32), (0, 8, 8), (0, 4096, 4096), (0, 4064, 4096), (0, 100, 50), (0, 50, 100), (0, u32::MAX, 0), (32, 32, 4096), (4096, 4096, 4096), (8, 0, 0), (4000, 96, 96)] {
+        for size in [4096u32, 8192, 8191, 8222, taken + 4096, taken + 4095, u32::MAX] { o.on_record([6, size, taken, place, over], &header(place, 4096), Told::Totals([1, 2, 3, 4, 5])); }
+    }
+}
+
+/// Names that are no whole row of lengths, or hold less than a record.
+fn short_names(o: &mut Out<impl Write>) {
+    let m = bins_of(0, &[(4096, &[8, -16, 88])]);
+    o.image(&m);
+    let row: Vec<u8> = [32u32, 0, 4064, 1].into_iter().flat_map(|x| x.to_le_bytes()).collect();
+    for n in 0..=row.len() { for times in [1, 2] { o.named(26, &[9, 4096, times], &row[..n]); } }
+    o.image(&m[..32]);
+    let mut name = [7u8; 53];
+    for kind in [0, 1] { name[12] = kind; for n in [0, 1, 4, 11, 12, 13, 14, 16, 17, 20, 21, 24, 25, 29, 36, 37, 45, 52, 53] { o.named(27, &[9, 8192, 0, 0, 0], &name[..n]); } }
+}
+
+/// Random rows of parts: of good bins, of damaged ones, of too few bytes and of too many; and random records.
+fn any_parts(o: &mut Out<impl Write>, r: &mut Rng, random: u64) {
+    for _ in 0..random {
+        let count = r.range(0, 3);
+        let mut m = bins(r, 0, count);
+        let base = r.pick(&[0, 0, 7, 4096, 4096, u32::MAX, 1 << 31]);
+        let size = m.len() as u32;
+        m.extend(r.bytes(40));
+        o.image(&m);
+        let cells = cells_of(&m[..size as usize], 0);
+        for i in 0..6 {
+            let mut changed = vec![];
+            if i > 1 && !cells.is_empty() && !r.chance(4) {
+                let (bin, at) = r.pick(&cells);
+                let at = if r.chance(3) { bin + r.range(0, 11) } else { at + r.range(0, 3) };
+                let x = if r.chance(2) { r.next() as u8 } else { m[at] ^ (1 << r.below(8)) };
+                o.patch(at, &[x]);
+                changed.push(at);
+            }
+            // the bins size, mostly that of the bins; the bytes that come, mostly as many
+            let size = match r.below(10) { 0 => size + r.range(1, 40) as u32, 1 => size.saturating_sub(r.range(1, 40) as u32), 2 => r.word(), _ => size };
+            let come = match r.below(6) { 0 => r.range(0, m.len()), 1 => (size as usize + r.range(0, 8)).min(m.len()), _ => (size as usize).min(m.len()) };
+            o.length(come);
+            if r.chance(4) && come < 20000 { let lengths = [r.pick(&CUTS), 0]; o.whole_in(base, size, &lengths[..r.range(1, 2)]); }
+            let mut lengths = any_cut(r, come);
+            if r.chance(8) { let i = r.range(0, lengths.len() - 1); lengths[i] += r.range(1, 50) as u32; }
+            o.parts(base, size, 1, &lengths);
+            o.length(m.len());
+            for at in changed { o.patch(at, &m[at..at + 1]); }
+        }
+        any_records(o, r);
+    }
+}
+
+/// Random records, many of them close to such as a row leads to, and a part.
+fn any_records(o: &mut Out<impl Write>, r: &mut Rng) {
+    let m = bins(r, 0, 1);
+    for _ in 0..8 {
+        let from = r.pick(&[0usize, 0, 4, 28, 31, 32, 33]);
+        let n = r.pick(&[0usize, 1, 1, 3, 4, 28, 32, 60, 300]);
+        let mut part = m[from..from + n].to_vec();
+        if r.chance(4) && n > 0 { let at = r.range(0, n - 1); part[at] = r.next() as u8; }
+        o.image(&part);
+        let place = if r.chance(3) { r.word() } else { 8 * r.below(600) as u32 };
+        let over = match r.below(4) { 0 => place, 1 => r.word(), _ => place.wrapping_add(8 * r.below(60) as u32) };
+        let taken = match r.below(5) { 0 => r.word(), 1 => place.wrapping_sub(r.below(40) as u32), _ => place.wrapping_add(r.below(34) as u32) };
+        let size = match r.below(5) { 0 => r.word(), 1 => taken.wrapping_add(n as u32), 2 => place.wrapping_add(r.below(40) as u32), _ => taken.wrapping_add(r.below(9000) as u32) };
+        let mut head = [0u8; 12];
+        if r.chance(2) { bin_header(&mut head, 0, place as usize, 4096 * r.range(0, 3)); } else { put32(&mut head, 0, (8 * r.range(0, 40) as u32).wrapping_mul(r.pick(&[1, u32::MAX]))); }
+        if r.chance(4) { let at = r.range(0, 11); head[at] = r.next() as u8; }
+        let totals = std::array::from_fn(|_| if r.chance(6) { u64::MAX - r.below(40) } else { r.below(5000) });
+        let answer = if r.chance(8) { Told::Refused(r.range(1, 255) as u8, r.word(), r.next() >> r.below(64)) } else { Told::Totals(totals) };
+        o.on_record([r.word(), size, taken, place, over], &head, answer);
+    }
+}
+
+/// Hives: their bins in parts, as they are and in so many damaged copies.
+fn hive_parts(o: &mut Out<impl Write>, r: &mut Rng, files: &[String], copies: usize) {
+    for f in files {
+        let whole = std::fs::read(f).expect(f);
+        let m = &whole[4096..whole.len().min(IMAGE_MOST)];
+        let size = m.len() as u32;
+        o.image(m);
+        let cells = cells_of(m, 0);
+        for told in [size, get32(&whole, 40)] { for each in CUTS { for lengths in [&[each][..], &[each, 0]] { o.whole_in(4096, told, lengths); } } }
+        for _ in 0..copies {
+            let (bin, at) = r.pick(&cells);
+            let at = match r.below(4) { 0 => bin + r.range(0, 11), 1 => r.range(0, m.len() - 1), _ => at + r.range(0, 3) };
+            let x = if r.chance(2) { r.next() as u8 } else { m[at] ^ (1 << r.below(8)) };
+            o.patch(at, &[x]);
+            for each in [4096, r.pick(&CUTS)] { o.whole_in(4096, size, &[each]); }
+            let (n, lengths) = (r.range(0, m.len()), any_cut(r, m.len()));
+            o.parts(4096, size, 1, &lengths);
+            o.parts(4096, size, 1, &[n as u32, r.below(5000) as u32, size]);
+            o.patch(at, &m[at..at + 1]);
+        }
     }
 }
 
@@ -1900,15 +2225,16 @@ fn main() {
     let to = BufWriter::with_capacity(1 << 16, std::io::stdout().lock());
     let mut o = Out::new(to, [1; TAGS], 0);
     match (args.first().map(|s| s.as_str()), number(0), number(1)) {
-        (Some("fixed"), _, _) => { boundaries(&mut o); fixed(&mut o); wide(&mut o); cells(&mut o, &mut Rng(0), 0); puts(&mut o, &mut Rng(0), 0); leaves(&mut o, &mut Rng(0), 0, 0); data_edges(&mut o, true); steps(&mut o, true); deleted(&mut o, true); letters(&mut o) }
-        (Some("hives"), _, Some(seed)) => { hives(&mut o, &mut Rng(seed), &args[2..], 12, 40); hive_bins(&mut o, &mut Rng(seed), &args[2..], 40) }
+        (Some("fixed"), _, _) => { boundaries(&mut o); fixed(&mut o); wide(&mut o); cells(&mut o, &mut Rng(0), 0); puts(&mut o, &mut Rng(0), 0); leaves(&mut o, &mut Rng(0), 0, 0); data_edges(&mut o, true); steps(&mut o, true); deleted(&mut o, true); letters(&mut o); arriving(&mut o, true); records_between(&mut o, true); short_names(&mut o) }
+        (Some("hives"), _, Some(seed)) => { hives(&mut o, &mut Rng(seed), &args[2..], 12, 40); hive_bins(&mut o, &mut Rng(seed), &args[2..], 40); hive_parts(&mut o, &mut Rng(seed), &args[2..], 40) }
         (Some("stored"), _, Some(seed)) => stored(&mut o, seed, &args[2..], false),
+        (Some("stored-parts"), _, Some(seed)) => stored_parts(&mut o, seed, &args[2..]),
         (Some("stored-rust"), _, Some(seed)) => {
             if args[2] != "-" { o.marked = Some(std::fs::read(&args[2]).expect("a list of marks")); }
             stored(&mut o, seed, &args[3..], true)
         }
-        (_, Some(seed), Some(n)) => { rounds(&mut o, &mut Rng(seed), n, USUAL); cells(&mut o, &mut Rng(seed), 10 * n); puts(&mut o, &mut Rng(seed), 10 * n); leaves(&mut o, &mut Rng(seed), n, USUAL.0); datas(&mut o, &mut Rng(seed), 4 * n); dropping(&mut o, &mut Rng(seed), n, USUAL.0); any_steps(&mut o, &mut Rng(seed), n); any_keys(&mut o, &mut Rng(seed), n); any_letters(&mut o, &mut Rng(seed), 10 * n) }
-        _ => { eprintln!("usage: cases fixed | hives SEED FILE.. | stored SEED FILE.. | stored-rust SEED MARKS FILE.. | SEED ROUNDS"); std::process::exit(2) }
+        (_, Some(seed), Some(n)) => { rounds(&mut o, &mut Rng(seed), n, USUAL); cells(&mut o, &mut Rng(seed), 10 * n); puts(&mut o, &mut Rng(seed), 10 * n); leaves(&mut o, &mut Rng(seed), n, USUAL.0); datas(&mut o, &mut Rng(seed), 4 * n); dropping(&mut o, &mut Rng(seed), n, USUAL.0); any_steps(&mut o, &mut Rng(seed), n); any_keys(&mut o, &mut Rng(seed), n); any_letters(&mut o, &mut Rng(seed), 10 * n); any_parts(&mut o, &mut Rng(seed), n) }
+        _ => { eprintln!("usage: cases fixed | hives SEED FILE.. | stored SEED FILE.. | stored-parts SEED FILE.. | stored-rust SEED MARKS FILE.. | SEED ROUNDS"); std::process::exit(2) }
     }
     o.to.flush().unwrap();
     eprintln!("{} cases", o.cases);

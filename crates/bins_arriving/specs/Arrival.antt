@@ -1,5 +1,5 @@
 -- Document 02, order 6: what holds of any row of parts. It is said of any answers that the promises of `begin`, `take_part` and `finish`
--- allow, each handed to the next call; proofs/Arrives.antt proves it.
+-- allow, each handed to the next call. proofs/Arrives.antt proves it of every base and every bins size of 32 bits, as `arrival`.
 use Prim.Native.Nat.{ℕ, _+_, _-_, _≤_, _<_}
 use mathlib.Core.Path.{_≡_}
 use mathlib.Core.List.{List, [], _∷_, _++_}

@@ -17,6 +17,7 @@ const CELL_HEADER: u32 = 4;
 
 const JUDGED: usize = 12;
 
+// The largest number of 64 bits.
 const MOST: usize = 0xFFFF_FFFF_FFFF_FFFF;
 
 // What is known of the bins after some parts. Places count from the base.
@@ -142,6 +143,7 @@ fn too_short(state: BinsSoFar) -> bool
     rest < BIN_HEADER
 }
 
+// The same record, or the refusal of a rest too short for a header.
 fn settled(state: BinsSoFar) -> BinsSoFar
     ensures { λ r. ⌜ r ≡ settle state ⌝ }
 {

@@ -58,8 +58,12 @@ BAD-DATA = 17
 abbrev pub PAST-END : ℕ
 PAST-END = 18
 
+-- order 7: "19 ALREADY IN"
+abbrev pub ALREADY-IN : ℕ
+ALREADY-IN = 19
+
 -- the table whole, in its order
 abbrev pub numbers : List ℕ
 numbers =
     SHORT ∷ OUTSIDE ∷ BAD-SIZE ∷ BAD-SIGN ∷ BAD-NAME ∷ NO-LIST ∷ TOO-MANY ∷ CUT-SHORT ∷ NO-ROOM ∷ BAD-BIN ∷ BAD-CELL ∷ TOO-LARGE ∷ BAD-BUDGET
-    ∷ TOO-DEEP ∷ OUT-OF-STEPS ∷ NOT-FOUND ∷ BAD-DATA ∷ PAST-END ∷ []
+    ∷ TOO-DEEP ∷ OUT-OF-STEPS ∷ NOT-FOUND ∷ BAD-DATA ∷ PAST-END ∷ ALREADY-IN ∷ []

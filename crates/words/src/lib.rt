@@ -45,8 +45,10 @@ pub const BAD_DATA: u32 = 17;
 
 pub const PAST_END: u32 = 18;
 
+pub const ALREADY_IN: u32 = 19;
+
 // The table whole: each constant is the number that the definitions have under its name.
-fn refusal_numbers() -> [u32; 18]
+fn refusal_numbers() -> [u32; 19]
     ensures { λ r. ⌜ r ≡ numbers ⌝ }
 {
     [
@@ -68,6 +70,7 @@ fn refusal_numbers() -> [u32; 18]
         NOT_FOUND,
         BAD_DATA,
         PAST_END,
+        ALREADY_IN,
     ]
 }
 

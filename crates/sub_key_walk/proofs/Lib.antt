@@ -9,3 +9,4 @@ pub mod Dropped
 pub mod Examples
 pub mod Entries
 pub mod Fills
+pub mod Most

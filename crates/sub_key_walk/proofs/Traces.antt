@@ -118,6 +118,12 @@ leaf-stands s p k z n e =
       entries = rw (f .0, f .1) at (r .entries);
     }
 
+-- and it has as many entries as its header says
+pub leaf-count : (s : List ℕ) (p k z n : ℕ) → listAt s p ≡ success (lists.leaf k z n) → countAt s p ≡ n
+leaf-count s p k z n e =
+    let r = read-readable s p (rw e tt) in
+    leaf-of-kind (kindAt s p) (countAt s p) k z n (same-success (sym (readable-list s p r) ∙ e)) .1
+
 -- ---- an `ri` list that was read: each of its entries is there
 
 index-of-kind : (kind count n : ℕ) → ofKind kind count ≡ lists.index n → (kind ≡ RI) × (count ≡ n)

@@ -5,7 +5,7 @@ use Prim.Native.Nat.{ℕ, _≤_, _<_}
 use borrow.Author.Tests.{lt-ltb, le-ltb, le-leb, lt-leb}
 use lib.ListN.{getD}
 use Rattle.words.specs.Refusals.{NOT-FOUND, ALREADY-IN}
-use Rattle.words.specs.Paper.{Paper, success, refused, by}
+use Rattle.words.specs.Paper.{success, refused, by}
 use Rattle.sub_key_walk.specs.declared.Counts.{Counts}
 use Rattle.sub_key_walk.specs.declared.WalkRefusal.{WalkRefusal}
 use Rattle.sub_key_walk.specs.declared.WalkAnswer.{WalkAnswer}
@@ -13,7 +13,7 @@ use Rattle.sub_key_walk.specs.declared.WalkAnswer.the-variants.{Read, Refused}
 use Rattle.sub_key_walk.specs.Answers.{walkTold, walkPaper}
 use Rattle.cell_key_node.specs.declared.KeyNode.{KeyNode}
 use Rattle.key_totals.specs.declared.Totals.{Totals}
-use Rattle.key_totals.specs.Table.{PLACES, free, outcome, refusing, keeping, full, placeOf, freeOf, numberIn, walked, laid, addOf, replaceOf, removeOf, numberOf}
+use Rattle.key_totals.specs.Table.{PLACES, free, outcome, refusing, keeping, full, placeOf, freeOf, walked, laid, addOf, replaceOf, removeOf, numberOf}
 
 -- the key has a place, `i`, or none, and then `i` is past the places
 module _ (t : Totals) (p : ℕ) {i : ℕ} (e : i ≡ placeOf t p) where

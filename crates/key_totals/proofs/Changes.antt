@@ -1,10 +1,9 @@
 -- What one call does to a table, and what it leaves. Assumes nothing.
-use Prim.{tt}
 use mathlib.Core.Path.{_≡_, refl, ap, sym, subst, _∙_}
 use mathlib.Core.Logic.{_↔_, _⊎_, inl, inr}
 use mathlib.Core.List.{List}
 use mathlib.Core.Bool.{Bool, true, false, cond}
-use Prim.Native.Nat.{ℕ, _+_, _*_, _≤_, _<_, _^_}
+use Prim.Native.Nat.{ℕ, _+_, _≤_, _<_, _^_}
 use native.Mathlib.Omega.{arith}
 use borrow.Author.Tests.{ltb-false, leb-true, leb-false}
 use lib.Dec.{ltb, leb}
@@ -17,7 +16,7 @@ use Rattle.words.proofs.Papers.{success-refused, refused-success, same-success}
 use Rattle.words.proofs.Buffers.{room-full, room-fits}
 use Rattle.sub_key_walk.specs.declared.Counts.{Counts}
 use Rattle.sub_key_walk.specs.declared.WalkRefusal.{WalkRefusal}
-use Rattle.sub_key_walk.specs.Answers.{BUDGET-LIMIT, measured, fullOf}
+use Rattle.sub_key_walk.specs.Answers.{fullOf}
 use Rattle.sub_key_walk.proofs.Papers.{paper-read}
 use Rattle.sub_key_walk.proofs.Most.{kept-most}
 use Rattle.cell_key_node.specs.declared.KeyNode.{KeyNode}
@@ -26,12 +25,12 @@ use Rattle.key_totals.specs.declared.Totals.{Totals}
 use Rattle.key_totals.specs.declared.Changed.{Changed}
 use Rattle.key_totals.specs.declared.KeptAnswer.the-variants.{Kept, Refused}
 use Rattle.key_totals.specs.declared.Wanted.the-variants.{Key}
-use Rattle.key_totals.specs.Table.{PLACES, free, entry, countedIn, suits, firstOf, laid, Outcome, outcome, refusing, keeping, full, placeOf, freeOf, numberIn, walked, addWalked, addOf, replaceWalked, replaceOf, removeOf, numberOf, keptPaper, changedPaper}
+use Rattle.key_totals.specs.Table.{PLACES, free, entry, countedIn, suits, laid, Outcome, outcome, refusing, keeping, full, placeOf, freeOf, numberIn, walked, addWalked, addOf, replaceWalked, replaceOf, removeOf, numberOf, keptPaper}
 use Rattle.key_totals.specs.Rows.{one, entriesIn, Entry, Once, Long, Summed, Call, add, replace, remove, named, called, Answers, placeFor, contentOf, lost, won, more, fewer, readAfter, Walked, Gives, Called}
-use Rattle.key_totals.proofs.Places.{true-false, not-below, same-or-not, first-before, first-at, first-is, first-none, first-same}
+use Rattle.key_totals.proofs.Places.{same-or-not, first-before, first-is, first-none, first-same}
 use Rattle.key_totals.proofs.Sums.{laid-long, laid-same, laid-other, laid-total, laid-exact, laid-summed}
 use Rattle.key_totals.proofs.Calls.{number-nowhere, number-there}
-use Rattle.key_totals.proofs.Entries.{suits-entry, entry-suits, free-entry, same-position, entry-inside, place-entry, free-taken, nowhere}
+use Rattle.key_totals.proofs.Entries.{suits-entry, entry-suits, free-entry, same-position, place-entry, free-taken, nowhere}
 
 -- ---- a call is refused, or it changes one place
 
@@ -208,6 +207,7 @@ module _ (s : List ℕ) (t : Totals) (l : Long t) where
           (sym (laid-same t i free (rw l h)) ∙ ap (λ (j : ℕ). getD (laid t i free .places) j free) (sym q) ∙ suits-entry p (getD (laid t i free .places) k free) x)
       here-or-there k (inr q) x =
           q (o k i p _ _ (sym (laid-other t i free k q) ∙ suits-entry p (getD (laid t i free .places) k free) x) e)
+
       none-there : (k : ℕ) → k < length (laid t i free .places) → suits (Key p) (getD (laid t i free .places) k free) ≡ true → ⊥
       none-there k g x = here-or-there k (same-or-not k i) x
 
@@ -255,9 +255,10 @@ module _ (s : List ℕ) (t : Totals) (l : Long t) where
     then-stays i p m d = go (same-or-not i (placeFor t c))
       where
         go : (i ≡ placeFor t c) ⊎ (i ≡ placeFor t c → ⊥) → Entry t i p m ↔ Entry then i p m
-        go (inl q) =
-            ((λ e. absurd (was-no-other c n h p m d (subst (λ (k : ℕ). Entry t k p m) q e))),
-            (λ e. absurd (is-no-other c n p m d (laid-there i p m q e))))
+        go (inl q) = (
+          (λ e. absurd (was-no-other c n h p m d (subst (λ (k : ℕ). Entry t k p m) q e))),
+          (λ e. absurd (is-no-other c n p m d (laid-there i p m q e))),
+        )
         go (inr q) = (stands-still i p m q, stood i p m q)
 
     -- reading another key
@@ -317,7 +318,7 @@ walked-own s base key budget n w =
       roomy = λ room h. ap (inRoom fullOf room) (w .1) ∙ room-fits fullOf room (w .0) (rw (w .2) h);
       tight = λ room h. ap (inRoom fullOf room) (w .1) ∙ room-full fullOf room (w .0) (rw (w .2) h);
       same = λ old new x y h.
-      paper-read x (w .0) (y .answer ∙ ap (inRoom fullOf (length old)) (w .1) ∙ room-fits fullOf (length old) (w .0) (rw (w .2) h));
+          paper-read x (w .0) (y .answer ∙ ap (inRoom fullOf (length old)) (w .1) ∙ room-fits fullOf (length old) (w .0) (rw (w .2) h));
     }
 
 number-in : (s : List ℕ) (t : Totals) (p n : ℕ) → Change s t (remove p) n → numberOf t p ≡ success n
@@ -347,19 +348,25 @@ calls s b t c r l a =
   where
     moved : (n : ℕ) → Changing s t c r n → entriesIn (r .table) + fewer c ≡ entriesIn t + more c
     moved n x = rw (x .0) (then-moves s t l c n (x .1))
+
     exactly : Summed t → (n : ℕ) → Changing s t c r n → r .table .total + lost t c ≡ t .total + won c n
     exactly m n x = subst (λ (u : Totals). u .total + lost t c ≡ t .total + won c n) (sym (x .0)) (then-exact s t l c n (x .1) b m)
+
     read : Once t → (n : ℕ) → Changing s t c r n → numberOf (r .table) (named c) ≡ readAfter c n
     read o n x = ap (λ (u : Totals). numberOf u (named c)) (x .0) ∙ then-reads s t l c n (x .1) o
+
     stay : (i p n : ℕ) → (p ≡ named c → ⊥) → (r .table ≡ t) ⊎ ((m : ℕ) × Changing s t c r m) → Entry t i p n ↔ Entry (r .table) i p n
     stay i p n d (inl q) = subst (λ (u : Totals). Entry t i p n ↔ Entry u i p n) (sym q) ((λ e. e), (λ e. e))
     stay i p n d (inr x) = subst (λ (u : Totals). Entry t i p n ↔ Entry u i p n) (sym (x .1 .0)) (then-stays s t l c (x .0) (x .1 .1) i p n d)
+
     other : (p : ℕ) → (p ≡ named c → ⊥) → (r .table ≡ t) ⊎ ((m : ℕ) × Changing s t c r m) → numberOf (r .table) p ≡ numberOf t p
     other p d (inl q) = ap (λ (u : Totals). numberOf u p) q
     other p d (inr x) = ap (λ (u : Totals). numberOf u p) (x .1 .0) ∙ then-others s t l c (x .0) (x .1 .1) p d
+
     keep : Summed t → (r .table ≡ t) ⊎ ((m : ℕ) × Changing s t c r m) → Summed (r .table)
     keep m (inl q) = subst Summed (sym q) m
     keep m (inr x) = subst Summed (sym (x .1 .0)) (then-keeps s t l c (x .0) (x .1 .1) b m)
+
     alone : Once t → (r .table ≡ t) ⊎ ((m : ℕ) × Changing s t c r m) → Once (r .table)
     alone o (inl q) = subst Once (sym q) o
     alone o (inr x) = subst Once (sym (x .1 .0)) (then-once s t l c (x .0) (x .1 .1) o)

@@ -1,8 +1,6 @@
 -- The entries of a table, and the places that are found. Assumes nothing.
-use mathlib.Core.Path.{_≡_, refl, ap, sym, subst, _∙_}
-use mathlib.Core.Logic.{_↔_}
-use mathlib.Core.List.{List}
-use mathlib.Core.Bool.{Bool, true, false, cond, not, _&&_}
+use mathlib.Core.Path.{_≡_, refl, ap, sym, _∙_}
+use mathlib.Core.Bool.{Bool, true, false, not, _&&_}
 use Prim.Native.Nat.{ℕ, _≤_, _<_}
 use native.Mathlib.Omega.{arith}
 use borrow.Author.Tests.{eq-eqb, eqb-true}
@@ -11,7 +9,7 @@ use lib.ListN.{length, getD, List·getD-eq-default}
 use Rattle.key_totals.specs.declared.Place.{Place}
 use Rattle.key_totals.specs.declared.Totals.{Totals}
 use Rattle.key_totals.specs.declared.Wanted.the-variants.{Free, Key}
-use Rattle.key_totals.specs.Table.{PLACES, free, entry, suits, firstOf, placeOf, freeOf, numberIn}
+use Rattle.key_totals.specs.Table.{PLACES, free, entry, suits, placeOf, freeOf, numberIn}
 use Rattle.key_totals.specs.Rows.{total, one, entriesIn, Entry, Has, Long, Finds}
 use Rattle.key_totals.proofs.Places.{true-false, not-below, first-before, first-at}
 use Rattle.key_totals.proofs.Sums.{taken-all, taken-some}

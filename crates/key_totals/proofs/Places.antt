@@ -109,6 +109,7 @@ module _ (f : Place → Bool) where
       where
         above : firstOf f es ≤ i
         above = not-below (λ l. true-false e (first-before es i l))
+
         below : i ≤ firstOf f es
         below = not-below (λ l. true-false (first-at es (omega arith)) (n (firstOf f es) l))
 

@@ -1,16 +1,16 @@
 -- Rows of calls that start with an empty table, and all that holds of an image (specs/Rows.antt). Assumes nothing.
-use mathlib.Core.Path.{_≡_, refl, ap, sym, subst, _∙_}
+use mathlib.Core.Path.{_≡_, refl, sym, subst, _∙_}
 use mathlib.Core.Logic.{_⊎_, inl, inr}
 use mathlib.Core.List.{List, [], _∷_}
-use Prim.Native.Nat.{ℕ, zero, suc, _+_, _<_, _≤_, _^_}
+use Prim.Native.Nat.{ℕ, zero, suc, _<_, _^_}
 use native.Mathlib.Omega.{arith}
-use lib.ListN.{length, replicate, length-replicate, getD}
+use lib.ListN.{replicate, length-replicate, getD}
 use Rattle.words.proofs.Little.{Bytes}
 use Rattle.key_totals.specs.declared.Place.{Place}
 use Rattle.key_totals.specs.declared.Totals.{Totals}
 use Rattle.key_totals.specs.declared.Changed.{Changed}
 use Rattle.key_totals.specs.Table.{PLACES, free, entry, none, countedIn, laid}
-use Rattle.key_totals.specs.Rows.{total, Entry, Once, Summed, Call, add, replace, remove, named, After, Began, In, placeFor, contentOf, Own, Called, Row, Holds}
+use Rattle.key_totals.specs.Rows.{total, Entry, Once, Summed, Call, add, replace, remove, named, After, Began, In, placeFor, contentOf, Own, Row, Holds}
 use Rattle.key_totals.proofs.Places.{same-or-not}
 use Rattle.key_totals.proofs.Sums.{summed-fits}
 use Rattle.key_totals.proofs.Entries.{free-entry, same-position, same-number, finds}

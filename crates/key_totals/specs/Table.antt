@@ -2,9 +2,9 @@
 use Prim.Native.Nat.{ℕ, suc, _+_, _-_, _%_, _^_}
 use mathlib.Core.List.{List, [], _∷_}
 use mathlib.Core.Bool.{Bool, true, false, cond, not, _&&_}
-use lib.ListN.{length, replicate, set, getD}
+use lib.ListN.{replicate, set, getD}
 use lib.Dec.{ltb, leb, eqb}
-use Rattle.words.specs.Refusals.{NO-ROOM, NOT-FOUND, ALREADY-IN}
+use Rattle.words.specs.Refusals.{NOT-FOUND, ALREADY-IN}
 use Rattle.words.specs.Paper.{Told, Paper, success, refused, by, noRoom}
 use Rattle.sub_key_walk.specs.declared.Counts.{Counts}
 use Rattle.sub_key_walk.specs.Answers.{measured, walkTold}

@@ -5,8 +5,9 @@ use sub_key_walk::WalkAnswer;
 use sub_key_walk::WalkRefusal;
 ghost use mathlib.Core.Path.{_≡_};
 ghost use Prim.Native.Nat.{_<_};
-ghost use Rattle.words.specs.Paper.{by};
-ghost use Rattle.key_totals.specs.Table.{PLACES, free, none, suits, firstOf, countedIn, laid, refusing, full, keeping, addOf, replaceOf, removeOf, numberOf, keptPaper, changedPaper};
+ghost use Rattle.words.specs.Paper.{tell};
+ghost use Rattle.sub_key_walk.specs.Answers.{walkTold};
+ghost use Rattle.key_totals.specs.Table.{PLACES, free, none, suits, firstOf, countedIn, laid, refusing, keeping, addOf, replaceOf, removeOf, numberOf, keptPaper, changedPaper};
 
 // The places of a table.
 const PLACES: usize = 256;
@@ -114,37 +115,27 @@ fn lay(table: Totals, at: usize, place: Place) -> Totals
     next
 }
 
-// A refusal by a number alone: the table stays as it is.
-fn refuse(table: Totals, number: u32) -> Changed
-    ensures { λ r. ⌜ changedPaper r ≡ refusing table (by number 0) ⌝ }
+// A refusal by a number, at position 0: the places needed, where there are too few, and every other field 0.
+fn told(number: u32, places: u32) -> WalkRefusal
+    ensures { λ r. ⌜ walkTold r ≡ tell number 0 0 places 0 0 ⌝ }
 {
-    Changed {
-        table,
-        answer: KeptAnswer::Refused(WalkRefusal {
-            number,
-            position: 0,
-            lists: 0,
-            places: 0,
-            entries: 0,
-            dropped: 0,
-        }),
+    WalkRefusal {
+        number,
+        position: 0,
+        lists: 0,
+        places,
+        entries: 0,
+        dropped: 0,
     }
 }
 
-// All places are taken.
-fn refuse_full(table: Totals) -> Changed
-    ensures { λ r. ⌜ changedPaper r ≡ refusing table full ⌝ }
+// A call that is refused: the table stays as it is.
+fn refuse(table: Totals, refusal: WalkRefusal) -> Changed
+    ensures { λ r. ⌜ changedPaper r ≡ refusing table (walkTold refusal) ⌝ }
 {
     Changed {
         table,
-        answer: KeptAnswer::Refused(WalkRefusal {
-            number: words::NO_ROOM,
-            position: 0,
-            lists: 0,
-            places: NEEDED,
-            entries: 0,
-            dropped: 0,
-        }),
+        answer: KeptAnswer::Refused(refusal),
     }
 }
 
@@ -176,17 +167,14 @@ pub fn add(
     ensures { λ r. ⌜ changedPaper r ≡ addOf table (now (image .entry)) base position key budget ⌝ }
 {
     if first(table, Wanted::Key(position)) < PLACES {
-        return refuse(table, words::ALREADY_IN);
+        return refuse(table, told(words::ALREADY_IN, 0));
     }
     match cell_key_node::sub_key_counts_of(image, base, key, budget) {
-        WalkAnswer::Refused(fault) => Changed {
-            table,
-            answer: KeptAnswer::Refused(fault),
-        },
+        WalkAnswer::Refused(fault) => refuse(table, fault),
         WalkAnswer::Read(counts) => {
             let at = first(table, Wanted::Free);
             if PLACES <= at {
-                return refuse_full(table);
+                return refuse(table, told(words::NO_ROOM, NEEDED));
             }
             keep(table, at, position, counts.kept)
         }
@@ -206,13 +194,10 @@ pub fn replace(
 {
     let at = first(table, Wanted::Key(position));
     if PLACES <= at {
-        return refuse(table, words::NOT_FOUND);
+        return refuse(table, told(words::NOT_FOUND, 0));
     }
     match cell_key_node::sub_key_counts_of(image, base, key, budget) {
-        WalkAnswer::Refused(fault) => Changed {
-            table,
-            answer: KeptAnswer::Refused(fault),
-        },
+        WalkAnswer::Refused(fault) => refuse(table, fault),
         WalkAnswer::Read(counts) => keep(table, at, position, counts.kept),
     }
 }
@@ -223,7 +208,7 @@ pub fn remove(table: Totals, position: usize) -> Changed
 {
     let at = first(table, Wanted::Key(position));
     if PLACES <= at {
-        return refuse(table, words::NOT_FOUND);
+        return refuse(table, told(words::NOT_FOUND, 0));
     }
     let was = table.places[at];
     Changed {
@@ -245,14 +230,7 @@ pub fn kept_of(table: Totals, position: usize) -> KeptAnswer
 {
     let at = first(table, Wanted::Key(position));
     if PLACES <= at {
-        return KeptAnswer::Refused(WalkRefusal {
-            number: words::NOT_FOUND,
-            position: 0,
-            lists: 0,
-            places: 0,
-            entries: 0,
-            dropped: 0,
-        });
+        return KeptAnswer::Refused(told(words::NOT_FOUND, 0));
     }
     let place = table.places[at];
     KeptAnswer::Kept(place.kept)

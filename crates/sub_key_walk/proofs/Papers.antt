@@ -14,7 +14,8 @@ use Rattle.sub_key_walk.specs.Leaf.{leafPaper, LeafAnswered}
 use Rattle.sub_key_walk.specs.declared.LeafAnswer.{LeafAnswer}
 use Rattle.sub_key_walk.specs.declared.LeafAnswer.the-variants as leaf
 
-same-fault : {f g : WalkRefusal} → walkTold f ≡ walkTold g → f ≡ g
+-- a refusal of the walk is told apart by what it tells
+pub same-fault : {f g : WalkRefusal} → walkTold f ≡ walkTold g → f ≡ g
 same-fault e = λ i. record { number = e i .number; position = e i .position; lists = e i .lists; places = e i .places; entries = e i .entries; dropped = e i .dropped }
 
 pub paper-injective : (a b : WalkAnswer) → walkPaper a ≡ walkPaper b → a ≡ b

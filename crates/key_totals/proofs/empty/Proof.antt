@@ -5,15 +5,10 @@ use Rattle.key_totals.specs.declared.Place.{Place}
 use Rattle.key_totals.specs.Table.{PLACES, totals}
 use Rattle.key_totals.proofs.empty.Statement.{statement}
 use Rattle.key_totals.proofs.empty.Tie as tie
-use Rattle.key_totals.proofs.empty.Reads as reads
-use Rattle.key_totals.proofs.empty.Lts as lts
-use Rattle.key_totals.proofs.nothing.Reads as nothing-reads
 
--- src/lib.rt:63:9
 nothing-requires : tie.Need-nothing-requires
 nothing-requires c κs = search needs
 
--- src/lib.rt:60:1
 returns : tie.Need-returns
 returns c = ap (λ (e : Place). totals (replicate PLACES e) 0) (c .nothing .ensures)
 

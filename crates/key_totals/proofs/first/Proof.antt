@@ -4,12 +4,9 @@ use native.Mathlib.Omega.{arith}
 use mathlib.Core.Path.{_≡_, sym, _∙_}
 use borrow.Author.Needs.{needs}
 use Rattle.key_totals.specs.Table.{free, suits}
-use Rattle.key_totals.proofs.Places.{long, Left, left-start, left-found, left-next, left-end}
+use Rattle.key_totals.proofs.Places.{long, Left, left-found, left-next, left-end}
 use Rattle.key_totals.proofs.first.Statement.{statement}
 use Rattle.key_totals.proofs.first.Tie as tie
-use Rattle.key_totals.proofs.first.Reads as reads
-use Rattle.key_totals.proofs.first.Lts as lts
-use Rattle.key_totals.proofs.is_wanted.Reads as is-wanted-reads
 
 abbrev Inv-loop : tie.InvT-loop
 Inv-loop wanted table i₀ i = (i ≤ 256) × Left (suits wanted) (table .places) i
@@ -17,23 +14,18 @@ Inv-loop wanted table i₀ i = (i ≤ 256) × Left (suits wanted) (table .places
 abbrev μ-loop : tie.MeasureT-loop
 μ-loop wanted table i₀ i = 256 - i
 
--- src/lib.rt:85:5
 loop-holds : tie.Need-loop-holds Inv-loop μ-loop
 loop-holds c = search needs
 
--- src/lib.rt:86:21
 mul-place : tie.Need-mul-place Inv-loop μ-loop
 mul-place c = search needs
 
--- src/lib.rt:86:21
 element-copy-out-place : tie.Need-element-copy-out-place Inv-loop μ-loop
 element-copy-out-place c = search needs
 
--- src/lib.rt:87:12
 is-wanted-requires : tie.Need-is-wanted-requires Inv-loop μ-loop
 is-wanted-requires c κs = search needs
 
--- src/lib.rt:88:13
 returns : tie.Need-returns Inv-loop μ-loop
 returns c =
     let a = c .before .before .before .before .before .args in
@@ -41,15 +33,12 @@ returns c =
     left-found (suits (a .wanted)) (a .t1 .places) (c .before .before .before .before .loop .i) free (omega arith) (c .before .before .before .before .loop .inv .1)
     (sym (c .before .is-wanted .ensures) ∙ c .if1 .taken)
 
--- src/lib.rt:90:9
 add-i : tie.Need-add-i Inv-loop μ-loop
 add-i c = search needs
 
--- src/lib.rt:85:5
 loop-less : tie.Need-loop-less Inv-loop μ-loop
 loop-less c = search needs
 
--- src/lib.rt:85:5
 loop-again : tie.Need-loop-again Inv-loop μ-loop
 loop-again c =
     let a = c .before .before .before .before .before .args in
@@ -59,7 +48,6 @@ loop-again c =
           (sym (c .before .is-wanted .ensures) ∙ c .if1 .left),
     )
 
--- src/lib.rt:81:1
 returns-2 : tie.Need-returns-2 Inv-loop μ-loop
 returns-2 c =
     let a = c .before .before .args in

@@ -2,28 +2,21 @@ use borrow.Author.Needs.{needs}
 use Rattle.key_totals.specs.Table.{suits}
 use Rattle.key_totals.proofs.is_wanted.Statement.{statement}
 use Rattle.key_totals.proofs.is_wanted.Tie as tie
-use Rattle.key_totals.proofs.is_wanted.Reads as reads
-use Rattle.key_totals.proofs.is_wanted.Lts as lts
 
--- src/lib.rt:75:25
 enum-told : tie.Need-enum-told
 enum-told c = search needs
 
--- src/lib.rt:76:21
 enum-known-wanted : tie.Need-enum-known-wanted
 enum-known-wanted c = search needs
 
--- src/lib.rt:71:1
 returns : tie.Need-returns
 unfolding suits
 returns c = search needs
 
--- src/lib.rt:71:1
 returns-2 : tie.Need-returns-2
 unfolding suits
 returns-2 c = simp (c .before .before .before .wanted .given .1, c .before .if1 .taken)
 
--- src/lib.rt:71:1
 returns-3 : tie.Need-returns-3
 unfolding suits
 returns-3 c = search needs

@@ -25,7 +25,7 @@ unfolding suits
 suits-entry p e h =
     let b = both (e .taken) (eqb (e .position) p) h in
     let q = eqb-true (e .position) p (b .1) in
-    λ i. record { taken = b .0 i; position = q i; kept = e .kept }
+    λ i. record { position = q i; kept = e .kept; taken = b .0 i }
 
 pub entry-suits : (p n : ℕ) (e : Place) → e ≡ entry p n → suits (Key p) e ≡ true
 unfolding suits

@@ -25,10 +25,10 @@ PLACES = 256
 
 -- a place that is free, and one that is taken by the key at a position, with its number
 abbrev pub free : Place
-free = record { taken = false; position = 0; kept = 0 }
+free = record { position = 0; kept = 0; taken = false }
 
 abbrev pub entry : ℕ → ℕ → Place
-entry p n = record { taken = true; position = p; kept = n }
+entry p n = record { position = p; kept = n; taken = true }
 
 -- a table of places and a total: the one place where they are put together
 abbrev pub totals : List Place → ℕ → Totals

@@ -17,9 +17,9 @@ const NEEDED: u32 = 257;
 
 // A place: a key's position in the image and the number of its subkeys, or free.
 pub struct Place {
-    pub taken: bool,
     pub position: usize,
     pub kept: u32,
+    pub taken: bool,
 }
 
 // The table: its places, and the sum of the numbers of those that are taken.
@@ -51,9 +51,9 @@ fn nothing() -> Place
     ensures { λ r. ⌜ r ≡ free ⌝ }
 {
     Place {
-        taken: false,
         position: 0,
         kept: 0,
+        taken: false,
     }
 }
 
@@ -145,9 +145,9 @@ fn keep(table: Totals, at: usize, position: usize, kept: u32) -> Changed
     ensures { λ r. ⌜ changedPaper r ≡ keeping table at position kept ⌝ }
 {
     let place = Place {
-        taken: true,
         position,
         kept,
+        taken: true,
     };
     Changed {
         table: lay(table, at, place),

@@ -9,6 +9,7 @@ use cell_key_value::LookupAnswer;
 use cell_key_value::ValueAnswer;
 use deleted_keys::DeletedAnswer;
 use hive_bin::BinsAnswer;
+use key_totals::KeptAnswer;
 use sub_key_walk::WalkAnswer;
 use value_data::DataAnswer;
 
@@ -157,6 +158,23 @@ fn sub_keys(image: &[u8], minor: u32, key: KeyNode) {
     }
 }
 
+// Step 10: a key into a table of totals, with the number of its subkeys. A call gives the table back, and the next call takes it; what
+// is asked again and again is then the stored total, and nothing is walked for it. Another image has another table.
+fn totals(image: &[u8], position: usize, key: KeyNode) {
+    say(b" totals");
+    let changed = key_totals::add(key_totals::empty(), image, BASE, position, key, BUDGET);
+    let table = changed.table;
+    let answer = changed.answer;
+    match answer {
+        KeptAnswer::Refused(f) => refused(f.number, f.position),
+        KeptAnswer::Kept(n) => {
+            number(n as u64);
+            number(key_totals::total_of(table));
+            line();
+        }
+    }
+}
+
 // Step 3: the root key, at the root offset plus the base. The offset is signed, and a negative one is refused by 2.
 fn root(image: &[u8], minor: u32, offset: i32) {
     say(b" root");
@@ -170,6 +188,7 @@ fn root(image: &[u8], minor: u32, offset: i32) {
         KeyAnswer::Key(key) => {
             named(position, cell_key_node::key_name(image, position));
             sub_keys(image, minor, key);
+            totals(image, position, key);
         }
     }
 }

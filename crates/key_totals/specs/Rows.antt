@@ -5,6 +5,7 @@ use mathlib.Core.Path.{_≡_}
 use mathlib.Core.Logic.{_↔_, _⊎_}
 use mathlib.Core.List.{List, [], _∷_}
 use mathlib.Core.Bool.{true, false, cond}
+use lib.Dec.{eqb}
 use lib.ListN.{length, getD}
 use Rattle.words.specs.Refusals.{NOT-FOUND}
 use Rattle.words.specs.Paper.{Paper, success, refused, by}
@@ -139,6 +140,16 @@ readAfter (add base p key budget) n = success n
 readAfter (replace base p key budget) n = success n
 readAfter (remove p) n = refused (by NOT-FOUND 0)
 
+-- what reading the key at p answers behind a call, where it answered h before, and behind a row of calls: what the last one that named
+-- it and succeeded left
+abbrev pub heldBy : Call → ℕ → Paper ℕ → Paper ℕ → Paper ℕ
+heldBy c p h (success n) = cond (eqb p (named c)) (readAfter c n) h
+heldBy c p h (refused u) = h
+
+abbrev pub heldAfter : List ℕ → Totals → List Call → ℕ → Paper ℕ → Paper ℕ
+heldAfter s t [] p h = h
+heldAfter s t (c ∷ cs) p h = heldAfter s (called s t c .table) cs p (heldBy c p h (called s t c .answer))
+
 -- ---- "the walk's own" number
 
 -- the walk from a key record keeps n offsets
@@ -202,6 +213,8 @@ pub record Row (s : List ℕ) (cs : List Call) (t : Totals) : Type 0 where
   pub once : Once t
   -- "the total never passes 64 bits"
   pub fits : t .total ≤ 256 * (2 ^ 32 - 1)
+  -- a key reads as the last call that named it and succeeded left it, and as not found where none did
+  pub last : (p : ℕ) → numberOf t p ≡ heldAfter s none cs p (refused (by NOT-FOUND 0))
   -- the number kept in an entry is the walk's own on that image, by a call of the row that named it
   pub own : (i p n : ℕ) → Entry t i p n → (c : Call) × In c cs × (named c ≡ p) × Own s c n
 

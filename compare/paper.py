@@ -15,8 +15,8 @@ import sys
 # "Refusal numbers"
 SHORT, OUTSIDE, BAD_SIZE, BAD_SIGN, BAD_NAME, NO_LIST, TOO_MANY, CUT_SHORT, NO_ROOM, BAD_BIN, BAD_CELL = range(1, 12)
 TOO_LARGE, BAD_BUDGET, TOO_DEEP, OUT_OF_STEPS, NOT_FOUND = range(12, 17)
-# document 02, orders 1 and 6
-BAD_DATA, PAST_END = 17, 18
+# document 02, orders 1, 6 and 7
+BAD_DATA, PAST_END, ALREADY_IN = 17, 18, 19
 
 MOST_COUNT = 1_048_576
 MOST_BUDGET = 65_536
@@ -593,6 +593,125 @@ def one_part(words, name, part):
             + so_far.told(so_far.answer))
 
 
+# ---- document 02, order 7: "Totals beside the keys"
+
+class Table:
+    """ "Keep a table of key position (lent with the key record) and kept number, with the grand total stored." A place has whether it is
+    taken, the position and the number. A table may be written by hand too, and then be one that no call makes. """
+
+    def __init__(self):
+        # "up to 256 chosen keys"; "a new image starts an empty table"
+        self.places, self.total, self.by_hand = [(False, 0, 0)] * 256, 0, False
+
+    def lay(self, at, place, more):
+        """Another content of a place, and by how much the total grows, in the 64 bits that it has."""
+        self.places[at] = place
+        self.total = (self.total + more) % 2 ** 64
+        # "Adding, replacing and removing an entry keep the total equal to the sum over the entries"
+        entries = [(position, kept) for taken, position, kept in self.places if taken]
+        assert self.by_hand or self.total == sum(kept for _, kept in entries) and len(dict(entries)) == len(entries)
+
+    def place_of(self, position):
+        """The first place with the key at a position; None where it is not in."""
+        return next((i for i, (taken, its, _) in enumerate(self.places) if taken and its == position), None)
+
+    def found(self, position):
+        # "or 16 on replacing and removing"; "0 for numbers .. 9 .. 16 and every number above 16"
+        at = self.place_of(position)
+        if at is None:
+            raise Refused(NOT_FOUND)
+        return at
+
+    def add(self, position, walk_from):
+        # "Refusals, in order: 19 ALREADY IN on adding"
+        if self.place_of(position) is not None:
+            raise Refused(ALREADY_IN)
+        # "on adding and replacing the walk's refusals without 9"
+        kept = walk_from()
+        # "on adding 9, with 257 places needed, when all 256 are taken"
+        free = [i for i, (taken, _, _) in enumerate(self.places) if not taken]
+        if not free:
+            raise Refused(NO_ROOM, places=257)
+        # "freed places are used again"
+        self.lay(free[0], (True, position, kept), kept)
+        return kept
+
+    def replace(self, position, walk_from):
+        at = self.found(position)
+        kept = walk_from()
+        self.lay(at, (True, position, kept), kept - self.places[at][2])
+        return kept
+
+    def remove(self, position):
+        at = self.found(position)
+        kept = self.places[at][2]
+        self.lay(at, (False, 0, 0), -kept)
+        return kept
+
+    def kept_of(self, position):
+        return self.places[self.found(position)][2]
+
+
+def one_call(table, kind, position, k, base, budget, count, offset, walks, image):
+    """What a call answers, at the k-th position; None where no call is made."""
+    if kind in (8, 9):
+        # "lent with the key record": its own count and list
+        key = key_record(image, position)
+        kind, count, offset = kind - 8, key[6], key[8]
+
+    def walk_from():
+        if (count, offset, base, budget) not in walks:
+            walks[count, offset, base, budget] = len(walked(image, count, offset, base, budget)[0])
+        return walks[count, offset, base, budget]
+
+    if kind == 0:
+        return table.add(position, walk_from)
+    if kind == 1:
+        return table.replace(position, walk_from)
+    if kind == 2:
+        return table.remove(position)
+    if kind == 3:
+        return table.kept_of(position)
+    if kind == 4:
+        return table.total
+    if kind == 5:
+        table.by_hand = True
+        table.places[(base + k) % 256] = (budget % 2 == 1, position, count)
+    elif kind == 6:
+        table.by_hand, table.total = True, position
+    elif kind == 7:
+        table.__init__()
+    return None
+
+
+def calls_made(name, image):
+    """The calls of a row: of each its kind, what it is answered and the stored total behind it; and the table that they leave."""
+    table, walks, calls = Table(), {}, []
+    for at in range(0, len(name) - 31, 32):
+        kind, times, low, high, base, budget, count, offset = (unsigned(name, at + 4 * i, 4) for i in range(8))
+        for k in range(times):
+            before = list(table.places), table.total
+            try:
+                answer = one_call(table, kind, (low + 2 ** 32 * high + k) % 2 ** 64, k, base, budget, count, offset, walks, image)
+                if answer is not None:
+                    calls.append((kind, ["ok", answer], table.total))
+            except Refused as r:
+                # "A refused call changes nothing."
+                assert (table.places, table.total) == before
+                calls.append((kind, r.told(), table.total))
+    return calls, table
+
+
+def row_of_calls(name, image):
+    calls, table = calls_made(name, image)
+    line = ["ok", len(calls), sum(told[0] == "ok" for _, told, _ in calls)] + sums([x for _, told, total in calls for x in told[1:] + [total]])
+    if len(calls) <= FEW:
+        for _, told, _ in calls:
+            line += ["call", *told]
+    return (line + [sum(taken for taken, _, _ in table.places), table.total]
+            + summed([int(x) for place in table.places for x in place]))
+
+
 # ---- "Name hash"
 
 def upper(x):
@@ -720,7 +839,7 @@ def put(out, at, width, number):
 # ---- the stream and the lines (compare/README.md)
 
 IMAGE_MOST, NAME_MOST, ROOM_MOST, BYTES_MOST, DATA_MOST, WIDE_MOST = 524_288, 65_536, 262_144, 32, 65_536, 8_192
-FEW = 4  # parts of a row that are written out
+FEW = 4  # parts or calls of a row that are written out
 PATCH, LENGTH = 100, 101
 
 
@@ -840,6 +959,8 @@ def answer(tag, a, b, c, d, e, name, image):
         return row_of_parts(a, b, c, name, image)
     if tag == 27:
         return one_part((a, b, c, d, e), name, image)
+    if tag == 28:
+        return row_of_calls(name, image)
     if tag == 6:
         return with_part(image, a, key_record, 2)
     if tag == 7:

@@ -1,6 +1,7 @@
 #!/usr/bin/env python3
 """compare/stored.py SEED HIVE..: what the stored cases are, for compare/STORED.md. Exit 1 where a refusal of a function, or a success or
-a refusal by 9 with entries dropped, is not among them, or where bins in parts end in another answer than the whole check's."""
+a refusal by 9 with entries dropped, or a refusal of a call on a table, is not among them, or where bins in parts end in another answer than the
+whole check's."""
 import collections
 import os
 import sys
@@ -11,13 +12,17 @@ NAMES = {1: "checksum", 2: "base block", 3: "`is_big_data_block`", 4: "value lis
          8: "lookup", 9: "name hash", 10: "bins and cells", 11: "one list", 12: "words", 13: "a record's value list",
          14: "a record's subkeys", 15: "a record's lookup", 16: "a leaf list", 17: "a walk's counts",
          18: "a cell", 19: "a number written", 20: "a record's counts", 21: "a value's data", 22: "a record's value data",
-         23: "a step of the reader", 24: "deleted keys", 25: "a step of the bins", 26: "bins in parts", 27: "one part on a record"}
+         23: "a step of the reader", 24: "deleted keys", 25: "a step of the bins", 26: "bins in parts", 27: "one part on a record", 28: "totals beside the keys"}
 # what documents 01 and 02 let each function be refused by
 REFUSALS = {1: [1], 2: [1, 4], 4: [2, 6, 7, 8, 9], 5: [2, 4, 7, 8, 9, 13, 14, 15], 6: [1, 2, 3, 4, 5], 7: [1, 2, 3, 4, 5],
             8: [1, 2, 3, 4, 5, 6, 7, 8, 16], 9: [5], 10: [8, 10, 11], 11: [2, 4, 8], 16: [2, 4, 8, 9],
             17: [2, 4, 7, 8, 13, 14, 15], 18: [2, 8], 20: [1, 2, 3, 4, 7, 8, 13, 15],
             21: [2, 4, 8, 9, 17], 22: [1, 2, 3, 4, 5, 8, 9, 17], 23: [10, 11], 24: [8, 9, 10, 11], 25: [10, 11],
             26: [8, 10, 11, 18], 27: [8, 10, 11, 18]}
+# the calls on a table of totals, and what 02 lets each be refused by: a key record's own refusals come first where it is read
+WALKED, READ = [2, 4, 7, 8, 13, 14, 15], [1, 2, 3, 4, 5]
+CALLS = {0: ("a key added", WALKED + [9, 19]), 8: ("the same, its record read", READ + [7, 8, 9, 13, 14, 15, 19]), 1: ("replaced", WALKED + [16]),
+         9: ("the same, its record read", READ + [7, 8, 13, 14, 15, 16]), 2: ("removed", [16]), 3: ("an entry read", [16]), 4: ("the total", [])}
 # where an `ok` line of each function that drops entries tells how many; where a refusal by 9 does, and which of them have a buffer
 DROPPED, DROPPED_BY_9, WITH_ROOM = {5: 5, 14: 5, 16: 4, 17: 5, 20: 5}, 7, (5, 14, 16)
 
@@ -54,6 +59,19 @@ def rows_of_parts(crate):
     return whole, before, unequal, rows, len(kinds), sum(len(ends) > 1 for ends in kinds.values())
 
 
+def rows_of_calls(crate):
+    """Of the calls of each kind what they were answered, by number; and how many rows leave a table that calls alone made."""
+    counts, by_calls = collections.defaultdict(collections.Counter), 0
+    with open(f"crates/{crate}/stdin", "rb") as stdin:
+        for tag, *_, name, image in reader.cases(stdin.read):
+            if tag == 28:
+                calls, table = reader.calls_made(name, image)
+                by_calls += not table.by_hand
+                for kind, told, _ in calls:
+                    counts[kind]["ok" if told[0] == "ok" else told[1]] += 1
+    return counts, by_calls
+
+
 def dropping(path):
     """Of each function, how many lines tell of entries dropped: successes, and refusals by 9."""
     counts = {tag: collections.Counter() for tag in DROPPED}
@@ -87,6 +105,8 @@ tells = told("crates/replay_paper/stdout")
 missing += [(NAMES[t], a) for t, c in tells.items() for a in (("none", "one", "more") if t == 24 else ("cell", "end")) if not c[a]]
 whole, before, unequal, rows, kinds, undecided = rows_of_parts("replay_parts")
 missing += [("bins in parts", why) for why, bad in (("unequal to the whole check", unequal), ("with two answers", undecided), ("whole", not whole)) if bad]
+calls, by_calls = rows_of_calls("replay_parts")
+missing += [(CALLS[k][0], n) for k in CALLS for n in ["ok"] + CALLS[k][1] if not calls[k][n]]
 total = lambda counts: sum(sum(c.values()) for c in counts.values())
 print(f"""# The stored cases
 
@@ -121,15 +141,25 @@ A cell is told in {tells[23]["cell"]} steps of the reader, the end in {tells[23]
 ## crates/replay_parts: {total(parts):,} cases, {size("replay_parts") // 1000} KB, answers of compare/paper.py
 
 Bins as they arrive: the stored cases of "bins and cells" again, cut in parts, each rule on both sides, random and damaged bins, hives; and one
-part on records of any numbers, whose refusals may be of any number too. A program by itself, since `rt try`, by which `compare/slips` runs
-them, takes no more than a megabyte of output from one.
+part on records of any numbers, whose refusals may be of any number too. Totals beside the keys: rows of calls, each refusal on both sides
+and before each other, full tables, places used again, tables that no call made, random rows, the keys of hives. A program by itself, since
+`rt try`, by which `compare/slips` runs them, takes no more than a megabyte of output from one.
 
 | Function | Cases | Success | Refused by number: cases |
 |---|---|---|---|""")
 table(parts)
+calls_table = "\n".join(f"| {CALLS[k][0]} | {sum(calls[k].values()):,} | {calls[k]['ok']:,} | {', '.join(f'{n}: {calls[k][n]:,}' for n in sorted(n for n in calls[k] if n != 'ok'))} |" for k in CALLS)
 print(f"""
 {whole:,} rows of parts have just the bins' bytes, and {before:,} others, of a size that an image can have, are refused by 10 or 11: each ends in the answer that the whole check gives on these bytes.
 {rows:,} rows with at least one part and none past the end have {kinds:,} different bytes, bases and sizes: whatever their cuts, all that are alike in these end in one answer.
+
+The {parts[28]["ok"]:,} rows of calls by what each call was answered:
+
+| Call | Calls | Success | Refused by number: calls |
+|---|---|---|---|
+{calls_table}
+
+{by_calls:,} of the rows leave a table that calls alone made: there the paper's reading holds the stored total, after each call, to the sum over the entries. The others write places or the total by hand.
 
 ## crates/replay_rust: {total(rust):,} cases, {size("replay_rust") // 1000} KB, the Rust's own answers
 

@@ -97,6 +97,7 @@ fn function(tag: u32) -> &'static str {
         25 => "bins' step",
         26 => "bins in parts",
         27 => "one part",
+        28 => "totals",
         _ => "?",
     }
 }

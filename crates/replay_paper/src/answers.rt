@@ -3,6 +3,8 @@ use super::lines;
 use super::lines::refused;
 use super::parts;
 use super::places;
+use super::totals;
+use super::totals::walk_refused;
 use base_block::BaseBlock;
 use base_block::BlockAnswer;
 use base_block::Checksum;
@@ -24,7 +26,6 @@ use replay_case::Case;
 use sub_key_list::SubKeyList;
 use sub_key_walk::LeafAnswer;
 use sub_key_walk::WalkAnswer;
-use sub_key_walk::WalkRefusal;
 use value_data::DataAnswer;
 use words::RoomRefusal;
 
@@ -150,16 +151,6 @@ fn values_of(image: &[u8], case: Case, out: &mut [u32]) {
         }
         KeyAnswer::Refused(refusal) => refused(refusal),
     }
-}
-
-fn walk_refused(refusal: WalkRefusal) {
-    lines::text(b" refused");
-    lines::word(refusal.number);
-    size(refusal.position);
-    lines::word(refusal.lists);
-    lines::word(refusal.places);
-    lines::word(refusal.entries);
-    lines::word(refusal.dropped);
 }
 
 fn walk_line(answer: WalkAnswer, out: &[u32]) {
@@ -573,6 +564,7 @@ pub fn answer(tag: u8, case: Case, image: &[u8], name: &[u8], out: &mut [u32]) {
         25 => step_line(hive_bin::step_at(image, spot_of(case))),
         26 => parts::row_of_parts(case, image, name),
         27 => parts::one_part(case, image, name),
+        28 => totals::row_of_calls(image, name),
         _ => lines::text(b" none"),
     }
 }

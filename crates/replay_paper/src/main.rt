@@ -5,6 +5,7 @@ mod lines;
 mod parts;
 mod places;
 mod stream;
+mod totals;
 
 fn main() {
     let mut image = [0u8; 524288];

@@ -1,10 +1,11 @@
-// Replays the part of the stored cases (compare/README.md) that is about bins as they arrive: a whole line for each, of what the
-// project's functions answer. The stored cases have the answers of document 02 as compare/paper.py reads it. What is not in answers.rt is
-// replay_paper's, by a link: that program answers these cases too, and here they have a stored output of their own.
+// Replays the part of the stored cases (compare/README.md) that is about bins as they arrive and totals beside the keys: a whole line for
+// each, of what the project's functions answer. The stored cases have the answers of document 02 as compare/paper.py reads it. What is not
+// in answers.rt is replay_paper's, by a link: that program answers these cases too, and here they have a stored output of their own.
 mod answers;
 mod lines;
 mod parts;
 mod stream;
+mod totals;
 
 fn main() {
     let mut image = [0u8; 524288];

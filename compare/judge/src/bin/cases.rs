@@ -2,7 +2,8 @@
 //!   cases fixed > CASES                 boundaries, and short inputs exhaustively
 //!   cases hives SEED FILE.. > CASES     hives: all their records and lists, cuts and damaged copies
 //!   cases stored SEED FILE.. > CASES    a share of all of these, to be kept in the repository
-//!   cases stored-parts SEED FILE.. > CASES   the same of bins as they arrive, with each stored case of the whole check cut in parts
+//!   cases stored-parts SEED FILE.. > CASES   the same of bins as they arrive, with each stored case of the whole check cut in parts, and of
+//!                                       totals beside the keys
 //!   cases stored-rust SEED MARKS FILE.. > CASES   the same of what the Rust has; MARKS: a file with a 1 for each case to keep, 0
 //!                                       for each other, or `-` to keep all
 //!   cases SEED ROUNDS > CASES           random images rich in plausible lists and records, and damaged ones
@@ -39,7 +40,7 @@ impl Rng {
 
 const IMAGE_MOST: usize = 524_288;
 /// one more than the greatest tag of a case
-const TAGS: usize = 28;
+const TAGS: usize = 29;
 const ENOUGH: u32 = 1024;
 /// the greatest room for a value's data, and the bytes of it in one cell or one segment
 const DATA_MOST: u32 = 65_536;
@@ -212,6 +213,11 @@ impl<W: Write> Out<W> {
             Told::Refused(kind, number, position) => { name.push(kind); name.extend(number.to_le_bytes()); name.extend(position.to_le_bytes()); }
         }
         self.named(27, &words, &name);
+    }
+    /// A row of calls on a table of totals.
+    fn calls(&mut self, calls: &[Call]) {
+        let name: Vec<u8> = calls.iter().flatten().flat_map(|x| x.to_le_bytes()).collect();
+        self.named(28, &[], &name);
     }
     fn lookup(&mut self, count: u32, offset: u32, base: u32, name: &[u8]) { self.named(8, &[count, offset, base], name); }
     fn named(&mut self, tag: u8, words: &[u32], name: &[u8]) {
@@ -944,7 +950,8 @@ fn stored(o: &mut Out<impl Write>, seed: u64, files: &[String], rust: bool) {
     any_letters(o, &mut Rng(seed), 100);
 }
 
-/// The samples about bins as they arrive, which are stored by themselves: among them each case of the whole check that is stored.
+/// The samples about bins as they arrive, which are stored by themselves: among them each case of the whole check that is stored. Behind
+/// them those about totals beside the keys.
 fn stored_parts(o: &mut Out<impl Write>, seed: u64, files: &[String]) {
     let mut others = Out::new(std::io::sink(), [1; TAGS], 0);
     others.checked = Some(vec![]);
@@ -955,6 +962,9 @@ fn stored_parts(o: &mut Out<impl Write>, seed: u64, files: &[String]) {
     any_parts(o, &mut Rng(seed), 20);
     hive_parts(o, &mut Rng(seed), files, 3);
     short_names(o);
+    totals(o, false);
+    any_totals(o, &mut Rng(seed), 30, SMALL.0);
+    hive_totals(o, &mut Rng(seed), files, 2);
 }
 
 // ---- hashes of names with units above 255: the ends of the ranges that have an upper case, words, and `random` others
@@ -1728,6 +1738,260 @@ fn hive_parts(o: &mut Out<impl Write>, r: &mut Rng, files: &[String], copies: us
     }
 }
 
+// ---- totals beside the keys
+
+/// A call of a row: kind, times, position (its low and its high word), base, budget, count, list.
+type Call = [u32; 8];
+/// What a walk goes by: base, budget, count, list.
+type From = [u32; 4];
+fn call(kind: u32, times: u32, position: u64, rest: From) -> Call {
+    [kind, times, position as u32, (position >> 32) as u32, rest[0], rest[1], rest[2], rest[3]]
+}
+fn add(position: u64, from: From) -> Call { call(0, 1, position, from) }
+fn replace(position: u64, from: From) -> Call { call(1, 1, position, from) }
+fn remove(position: u64) -> Call { call(2, 1, position, [0; 4]) }
+fn entry(position: u64) -> Call { call(3, 1, position, [0; 4]) }
+fn whole() -> Call { call(4, 1, 0, [0; 4]) }
+/// A place written by hand, the total written by hand, and an empty table.
+fn hand(at: u32, taken: bool, position: u64, kept: u32) -> Call { call(5, 1, position, [at, taken as u32, kept, 0]) }
+fn total(total: u64) -> Call { call(6, 1, total, [0; 4]) }
+fn clear() -> Call { call(7, 1, 0, [0; 4]) }
+/// By the key record at the position.
+fn add_key(position: u64, base: u32, budget: u32) -> Call { call(8, 1, position, [base, budget, 3, 5]) }
+fn replace_key(position: u64, base: u32, budget: u32) -> Call { call(9, 1, position, [base, budget, 3, 5]) }
+fn times(n: u32, mut call: Call) -> Call { call[1] = n; call }
+
+/// Walks from a base of 16, with what they keep: an image, those that are read, and those that are refused: by 2, 4, 7, 8 (two), 13, 14, 15.
+fn walks() -> (Vec<u8>, Vec<From>, Vec<From>) {
+    let base = 16u32;
+    let mut m = vec![0; 16 + 1800];
+    let out = u32::MAX - 15;
+    leaf_list(&mut m, 16, b"li", &[1, 2, 3, 4, 5], base);
+    leaf_list(&mut m, 16 + 32, b"lf", &[7, out, u32::MAX - 16], base);
+    leaf_list(&mut m, 16 + 72, b"lh", &[out, u32::MAX], base);
+    list(&mut m, 16 + 104, b"ri", &[0, 32, 0], 3);
+    list(&mut m, 16 + 128, b"lh", &[], 0);
+    list(&mut m, 16 + 136, b"lx", &[1], 1);
+    list(&mut m, 16 + 152, b"li", &[], 65535);
+    list(&mut m, 16 + 160, b"ri", &[160], 1);
+    list(&mut m, 16 + 176, b"ri", &[32, 136], 2);
+    let many: Vec<u32> = (0..300).collect();
+    leaf_list(&mut m, 16 + 200, b"li", &many, base);
+    let from = |count, list| [base, BUDGET, count, list];
+    let good = vec![from(1, 0), from(2, 32), from(1, 72), from(1, 104), from(9, 128), from(300, 200), from(0, 136), [base, 0, 0, 0], [0, 1, 1, 16], from(1 << 20, 32), [base, 4, 1, 104]];
+    let n = m.len() as u32 - 16;
+    let bad = vec![from(1, n + 1), from(1, 176), from((1 << 20) + 1, 0), from(1, 152), from(1, n - 7), [base, BUDGET + 1, u32::MAX, 0], from(1, 160), [base, 3, 1, 104], [base, 0, 1, 0]];
+    (m, good, bad)
+}
+
+/// Totals beside the keys: each refusal on both sides and before each other, places used again, and tables that no call made. `more`: what
+/// is too much of the same to be stored.
+fn totals(o: &mut Out<impl Write>, more: bool) {
+    let (m, good, bad) = walks();
+    let all: Vec<From> = good.iter().chain(&bad).copied().collect();
+    let ends = [0, 1, 7, 255, 256, u32::MAX as u64, 1 << 32, u64::MAX - 1, u64::MAX];
+    o.image(&m);
+    // no call, and the empty table
+    o.calls(&[]);
+    for kind in [2, 3, 4, 5, 6, 7, 10, 11, u32::MAX] { for n in [0, 1, 2] { o.calls(&[call(kind, n, 7, [3, 1, 9, 0]), whole()]); } }
+    for &from in &all { for &p in &ends[..if more { 9 } else { 3 }] { o.calls(&[add(p, from), entry(p), whole()]); o.calls(&[replace(p, from)]); } }
+    // one key, then each call on it and beside it: 19 and 16 before what the walk refuses, and another number in its place
+    for &first in if more { &good[..] } else { &good[..4] } { for &second in &all { for q in [7, 8] {
+        o.calls(&[add(7, first), add(q, second), whole()]);
+        o.calls(&[add(7, first), replace(q, second), entry(7), whole()]);
+        if more || q == 7 { o.calls(&[add(7, first), replace(q, second), add(8, first), remove(q), entry(7), entry(8), whole()]); }
+    } } }
+    for &p in &ends { for &q in &ends {
+        if !more && p != q && (p as u32 != q as u32) && p.wrapping_sub(q) != 1 { continue; }
+        for act in [add(q, good[3]), replace(q, good[3]), remove(q), entry(q)] { o.calls(&[add(p, good[0]), act, whole()]); }
+    } }
+    // positions that pass 2^64
+    for p in [u64::MAX, u64::MAX - 2, u32::MAX as u64 - 2] { o.calls(&[times(5, add(p, good[0])), times(3, remove(p)), times(5, entry(p)), whole()]); }
+    // the table full, by calls and by hand: what is in, what is not; removed and added again
+    let full = times(256, add(100, good[1]));
+    let by_hand = [times(256, call(5, 1, 100, [0, 1, 2, 0])), total(512)];
+    for (i, &from) in all.iter().enumerate() { for q in [99, 100, 227, 355, 356] {
+        if !more && (i % 3 == 1 && i < good.len() || q > 100 && i % 5 > 0) { continue; }
+        o.calls(&[&by_hand[..], &[add(q, from), whole()]].concat());
+        if more || q > 100 { o.calls(&[&by_hand[..], &[replace(q, from), entry(q), whole()]].concat()); }
+        if more || i % 9 == 3 { o.calls(&[full, add(q, from), whole()]); o.calls(&[full, replace(q, from), remove(q), add(q, from), add(q + 1000, from), whole()]); }
+    } }
+    for n in [0, 1, 254, 255, 256, 257, 300] { o.calls(&[times(n, add(1, good[0])), whole()]); o.calls(&[times(n, add(1, good[3])), times(300, remove(0)), whole(), times(3, add(9, good[1]))]); }
+    // freed places: the first of several, in any order of removing
+    let six = times(6, add(40, good[0]));
+    for gone in [&[40][..], &[45], &[43, 41], &[41, 43], &[44, 42, 40], &[40, 41, 42, 43, 44, 45], &[45, 44, 43, 42, 41, 40], &[42, 42, 39, 46]] {
+        let mut row = vec![six];
+        row.extend(gone.iter().map(|&p| remove(p)));
+        o.calls(&row);
+        for (i, &from) in good.iter().chain(&bad[..2]).enumerate() { row.push(add(60 + i as u64, from)); if more || i % 3 == 0 { o.calls(&row); } }
+        row.push(whole());
+        o.calls(&row);
+        if more || gone.len() > 3 { let row = [&[full, times(6, remove(140))], &row[..]].concat(); o.calls(&row); }
+    }
+    o.calls(&[six, clear(), whole(), entry(40), add(40, good[3])]);
+    // a position that stands twice, its first place taken or free: the first that is taken is meant, then the next one
+    for (a, b) in [(0, 1), (3, 200), (200, 3), (255, 0)] { for first in [false, true] { for &from in &all[..if more { all.len() } else { 4 }] {
+        let table = [hand(a, first, 7, 10), hand(b, true, 7, 20), hand(9, true, 8, 5), total(35)];
+        for acts in [&[add(7, from)][..], &[replace(7, from), entry(7)], &[remove(7), entry(7)], &[remove(7), remove(7), remove(7)], &[remove(7), add(7, from), remove(7)], &[add(70, from), replace(7, from)]] {
+            o.calls(&[&table[..], acts, &[whole()]].concat());
+        }
+    } } }
+    // totals that turn over, and numbers of 32 bits
+    for kept in [0, 1, 5, 300, u32::MAX] { for sum in [0, 1, 4, 5, u32::MAX as u64, 1 << 32, (1 << 63) - 1, u64::MAX - 299, u64::MAX - 1, u64::MAX] {
+        let table = [hand(2, true, 7, kept), hand(1, false, 7, 77), hand(0, false, 0, u32::MAX), total(sum)];
+        for &act in &[remove(7), replace(7, good[0]), replace(7, good[5]), replace(7, good[2]), add(8, good[5]), add(8, good[2]), add(7, good[0]), replace(7, bad[1])][..if more || kept > 300 { 8 } else { 5 }] {
+            o.calls(&[&table[..], &[act, whole()]].concat());
+        }
+    } }
+    // free places with a position and a number, and all places alike
+    for q in [0, 7, 9] { for p in [0, 7] {
+        let junk = [times(if more { 256 } else { 12 }, call(5, 1, 0, [0, 0, 99, 0])), hand(5, false, p, 3), hand(6, true, 9, 4), total(4)];
+        for act in [add(q, good[0]), replace(q, good[0]), remove(q), entry(q), add(q, bad[1])] { o.calls(&[&junk[..], &[act, entry(q), whole()]].concat()); }
+    } }
+    for (taken, kept) in [(true, u32::MAX), (true, 1), (false, u32::MAX), (false, 1)].into_iter().take(if more { 4 } else { 1 }) {
+        let alike: Vec<Call> = (0..256).map(|i| hand(i, taken, 7, kept)).collect();
+        let sum = 256 * kept as u64;
+        for acts in [&[add(7, good[0])][..], &[add(8, good[0])], &[add(8, bad[0])], &[replace(7, good[0]), entry(7)], &[remove(7), entry(7), add(8, good[0])]] { o.calls(&[&alike[..], &[total(sum)], acts, &[whole()]].concat()); }
+        o.calls(&[&alike[..], &[total(sum)], &vec![remove(7); 257], &[whole()]].concat());
+    }
+    // rests of a call, and of nothing
+    let row: Vec<u8> = [add(7, good[0]), add(8, good[1])].iter().flatten().flat_map(|x| x.to_le_bytes()).collect();
+    for n in [0, 1, 31, 32, 33, 63, 64] { o.named(28, &[], &row[..n]); }
+    // by the key record at the position: records that are read, with each walk; then each that is not
+    let at = m.len() as u64;
+    for (i, from) in all.iter().enumerate() {
+        let mut m = m.clone();
+        m.resize(m.len() + 96, 0x11);
+        for (p, x) in [(24, from[2]), (28, 2), (32, from[3]), (36, 32), (40, 1), (44, 0), (48, 72)] { put32(&mut m, at as usize + p, x); }
+        key_head(&mut m, at as usize, if i % 2 == 0 { -88 } else { 96 }, b"nk", 4);
+        o.image(&m);
+        let (base, budget) = (from[0], from[1]);
+        o.calls(&[add_key(at, base, budget), entry(at), whole()]);
+        o.calls(&[add_key(at, base, budget), add_key(at, base, budget), replace_key(at, base, budget), whole()]);
+        o.calls(&[replace_key(at, base, budget), add(at, good[0]), replace_key(at, base, budget), remove(at)]);
+        if more || i % 9 == 3 { o.calls(&[full, add_key(at, base, budget), whole()]); }
+        if i > 0 && !more { continue; }
+        let n = m.len();
+        let faults: [(usize, usize, Vec<u8>); 9] = [(n, 4, b"vk".to_vec()), (n, 0, signed(-79).to_vec()), (n, 0, signed(97).to_vec()), (n, 0, vec![0; 4]), (n, 76, vec![17, 0]), (n - 17, 4, b"nk".to_vec()), (n - 96, 0, vec![]), (n - 97, 0, vec![]), (n - 9, 4, b"nk".to_vec())];
+        for (length, place, bytes) in faults {
+            let mut d = m.clone();
+            d[at as usize + place..at as usize + place + bytes.len()].copy_from_slice(&bytes);
+            o.image(&d);
+            o.length(length);
+            for p in [at, at + 1, u64::MAX - at] {
+                o.calls(&[add_key(p, base, budget), whole()]);
+                o.calls(&[add(p, good[0]), add_key(p, base, budget), replace_key(p, base, budget), remove(p)]);
+                if more || place == 76 { o.calls(&[full, replace_key(p, base, budget), whole()]); }
+            }
+        }
+    }
+}
+
+/// A call of few positions by a few walks.
+fn any_call(r: &mut Rng, walks: &[From], few: u64) -> Call {
+    let p = if r.chance(30) { r.next() >> r.below(64) } else { 7 + r.below(few) };
+    let from = r.pick(walks);
+    match r.below(12) {
+        0..=4 => add(p, from),
+        5 | 6 => replace(p, from),
+        7..=9 => remove(p),
+        10 => entry(p),
+        _ => whole(),
+    }
+}
+
+/// Random rows of calls on `random` images with lists, of at most so many bytes: short ones, long ones over few positions, rows that fill a
+/// table and drain it, and tables made by hand.
+fn any_totals(o: &mut Out<impl Write>, r: &mut Rng, random: u64, most: usize) {
+    for i in 0..random {
+        let base = r.pick(&[0usize, 2, 16, 31, 32, most / 4]);
+        let (mut m, places) = lists(r, base, most);
+        let near = r.chance(2);
+        for &p in &places {
+            if !near || p + 8 > m.len() || &m[p + 4..p + 6] == b"ri" { continue; }
+            let each = if &m[p + 4..p + 6] == b"li" { 4 } else { 8 };
+            for at in (0..get16(&m, p + 6) as usize).map(|i| p + 8 + each * i) {
+                if at + 4 <= m.len() && r.chance(3) { let x = (u32::MAX - base as u32 - 1).wrapping_add(r.below(4) as u32); put32(&mut m, at, x); }
+            }
+        }
+        o.image(&m);
+        let mut walks: Vec<From> = places.iter().map(|&p| [base as u32, BUDGET, 1 + r.below(9) as u32, (p - base) as u32]).collect();
+        for _ in 0..r.range(1, 3) {
+            let list = if r.chance(2) { r.range(0, m.len() + 4) as u32 } else { r.pick(&places.iter().map(|&p| (p - base) as u32).chain([0]).collect::<Vec<u32>>()) };
+            walks.push(match r.below(6) { 0 => [base as u32, BUDGET, 0, list], 1 => [base as u32, r.below(8) as u32, 1, list], 2 => [r.word(), r.word(), r.word(), r.word()], 3 => [base as u32, BUDGET + 1, 1, list], 4 => [base as u32, BUDGET, (1 << 20) + 1, list], _ => [base as u32, BUDGET, 1, list] });
+        }
+        for _ in 0..3 {
+            let row: Vec<Call> = (0..r.range(1, 6)).map(|_| any_call(r, &walks, 2)).collect();
+            o.calls(&row);
+        }
+        let few = r.pick(&[3, 6, 12, 40]);
+        let row: Vec<Call> = (0..r.range(10, 60)).map(|_| any_call(r, &walks, few)).collect();
+        o.calls(&row);
+        // a table by hand, of few positions, its total right or any; then a few calls
+        for _ in 0..3 {
+            let mut row = vec![];
+            let (mut sum, n) = (0u64, r.range(1, 8));
+            for j in 0..n {
+                let (taken, kept) = (!r.chance(3), if r.chance(4) { r.word() } else { r.below(20) as u32 });
+                if taken { sum += kept as u64; }
+                row.push(hand(if r.chance(3) { 255 - j as u32 } else { j as u32 }, taken, 7 + r.below(3), kept));
+            }
+            if r.chance(8) { row.push(times(256, call(5, 1, if r.chance(2) { 7 } else { 50 }, [r.word(), 1, r.below(9) as u32, 0]))); }
+            row.push(total(match r.below(4) { 0 => r.below(30), 1 => u64::MAX - r.below(30), _ => sum }));
+            for _ in 0..r.range(1, 5) { row.push(any_call(r, &walks, 4)); }
+            o.calls(&row);
+        }
+        // full and drained
+        if i % 5 == 0 {
+            let (mut row, mut at) = (vec![], 0u64);
+            while at < 256 { let n = r.range(1, 120) as u32; row.push(times(n, add(7 + at, r.pick(&walks)))); at += n as u64; }
+            for _ in 0..r.range(1, 6) { row.push(any_call(r, &walks, 300)); }
+            for _ in 0..r.range(0, 3) { let p = 7 + r.below(260); row.push(times(r.range(1, 40) as u32, remove(p))); row.push(times(r.range(1, 60) as u32, add(p.wrapping_sub(r.below(9)), r.pick(&walks)))); row.push(times(r.range(1, 20) as u32, replace(p, r.pick(&walks)))); }
+            if r.chance(2) { row.push(times(270, remove(7 - r.below(3)))); }
+            row.push(whole());
+            o.calls(&row);
+        }
+    }
+}
+
+/// Hives: all their keys in one table, and each by itself, some replaced and some removed; as they are and in so many damaged copies.
+fn hive_totals(o: &mut Out<impl Write>, r: &mut Rng, files: &[String], copies: usize) {
+    for f in files {
+        let whole_file = std::fs::read(f).expect(f);
+        let m = &whole_file[..whole_file.len().min(IMAGE_MOST)];
+        let keys: Vec<u64> = (4096..m.len().saturating_sub(80)).step_by(8).filter(|&p| &m[p + 4..p + 6] == b"nk").map(|p| p as u64).collect();
+        for copy in 0..=copies {
+            o.image(m);
+            if copy > 0 {
+                for _ in 0..r.range(1, 4) {
+                    let p = r.pick(&keys) as usize;
+                    let at = match r.below(4) { 0 => p + r.range(0, 5), 1 => p + 24 + r.range(0, 3), 2 => p + 32 + r.range(0, 3), _ => r.range(4096, m.len() - 1) };
+                    let x = if r.chance(2) { r.next() as u8 } else { m[at] ^ (1 << r.below(8)) };
+                    o.patch(at, &[x]);
+                }
+                if r.chance(4) { let n = r.range(4096, m.len()); o.length(n); }
+            }
+            let adds: Vec<Call> = keys.iter().map(|&p| add_key(p, 4096, 1024)).collect();
+            o.calls(&[&adds[..], &[whole()]].concat());
+            let mut row = adds.clone();
+            for _ in 0..r.range(4, 30) {
+                let p = r.pick(&keys);
+                row.push(match r.below(5) { 0 | 1 => remove(p), 2 => replace_key(p, 4096, 1024), 3 => add_key(p, 4096, 1024), _ => entry(p) });
+            }
+            row.push(whole());
+            o.calls(&row);
+            // the rest of the table with others beside these
+            row.push(times(260, call(0, 1, 1, [4096, 1024, 0, 0])));
+            row.push(add_key(r.pick(&keys), 4096, 1024));
+            if copy % 5 == 0 { o.calls(&row); }
+            for _ in 0..6 {
+                let (p, q) = (r.pick(&keys), r.pick(&keys));
+                o.calls(&[add_key(p, 4096, r.pick(&[0, 1, 1024])), add_key(q, 4096, 1024), replace_key(p, r.pick(&[4096, 0, 4096]), 1024), remove(q)]);
+            }
+        }
+    }
+}
+
 // ---- value data
 
 /// A part of a chain that is made wrong: where, and the bytes there.
@@ -2225,15 +2489,15 @@ fn main() {
     let to = BufWriter::with_capacity(1 << 16, std::io::stdout().lock());
     let mut o = Out::new(to, [1; TAGS], 0);
     match (args.first().map(|s| s.as_str()), number(0), number(1)) {
-        (Some("fixed"), _, _) => { boundaries(&mut o); fixed(&mut o); wide(&mut o); cells(&mut o, &mut Rng(0), 0); puts(&mut o, &mut Rng(0), 0); leaves(&mut o, &mut Rng(0), 0, 0); data_edges(&mut o, true); steps(&mut o, true); deleted(&mut o, true); letters(&mut o); arriving(&mut o, true); records_between(&mut o, true); short_names(&mut o) }
-        (Some("hives"), _, Some(seed)) => { hives(&mut o, &mut Rng(seed), &args[2..], 12, 40); hive_bins(&mut o, &mut Rng(seed), &args[2..], 40); hive_parts(&mut o, &mut Rng(seed), &args[2..], 40) }
+        (Some("fixed"), _, _) => { boundaries(&mut o); fixed(&mut o); wide(&mut o); cells(&mut o, &mut Rng(0), 0); puts(&mut o, &mut Rng(0), 0); leaves(&mut o, &mut Rng(0), 0, 0); data_edges(&mut o, true); steps(&mut o, true); deleted(&mut o, true); letters(&mut o); arriving(&mut o, true); records_between(&mut o, true); short_names(&mut o); totals(&mut o, true) }
+        (Some("hives"), _, Some(seed)) => { hives(&mut o, &mut Rng(seed), &args[2..], 12, 40); hive_bins(&mut o, &mut Rng(seed), &args[2..], 40); hive_parts(&mut o, &mut Rng(seed), &args[2..], 40); hive_totals(&mut o, &mut Rng(seed), &args[2..], 40) }
         (Some("stored"), _, Some(seed)) => stored(&mut o, seed, &args[2..], false),
         (Some("stored-parts"), _, Some(seed)) => stored_parts(&mut o, seed, &args[2..]),
         (Some("stored-rust"), _, Some(seed)) => {
             if args[2] != "-" { o.marked = Some(std::fs::read(&args[2]).expect("a list of marks")); }
             stored(&mut o, seed, &args[3..], true)
         }
-        (_, Some(seed), Some(n)) => { rounds(&mut o, &mut Rng(seed), n, USUAL); cells(&mut o, &mut Rng(seed), 10 * n); puts(&mut o, &mut Rng(seed), 10 * n); leaves(&mut o, &mut Rng(seed), n, USUAL.0); datas(&mut o, &mut Rng(seed), 4 * n); dropping(&mut o, &mut Rng(seed), n, USUAL.0); any_steps(&mut o, &mut Rng(seed), n); any_keys(&mut o, &mut Rng(seed), n); any_letters(&mut o, &mut Rng(seed), 10 * n); any_parts(&mut o, &mut Rng(seed), n) }
+        (_, Some(seed), Some(n)) => { rounds(&mut o, &mut Rng(seed), n, USUAL); cells(&mut o, &mut Rng(seed), 10 * n); puts(&mut o, &mut Rng(seed), 10 * n); leaves(&mut o, &mut Rng(seed), n, USUAL.0); datas(&mut o, &mut Rng(seed), 4 * n); dropping(&mut o, &mut Rng(seed), n, USUAL.0); any_steps(&mut o, &mut Rng(seed), n); any_keys(&mut o, &mut Rng(seed), n); any_letters(&mut o, &mut Rng(seed), 10 * n); any_parts(&mut o, &mut Rng(seed), n); any_totals(&mut o, &mut Rng(seed), n, USUAL.0) }
         _ => { eprintln!("usage: cases fixed | hives SEED FILE.. | stored SEED FILE.. | stored-parts SEED FILE.. | stored-rust SEED MARKS FILE.. | SEED ROUNDS"); std::process::exit(2) }
     }
     o.to.flush().unwrap();

@@ -1,0 +1,49 @@
+use borrow.Author.Needs.{needs}
+use Prim.Native.Nat.{_≤_, _-_}
+use Rattle.replay_paper.proofs.totals.repeated.Statement.{statement}
+use Rattle.replay_paper.proofs.totals.repeated.Tie as tie
+
+abbrev Inv-loop : tie.InvT-loop
+Inv-loop image call shown table₀ tally₀ k₀ table tally k = k ≤ call .times
+
+abbrev μ-loop : tie.MeasureT-loop
+μ-loop image call shown table₀ tally₀ k₀ table tally k = call .times - k
+
+loop-holds : tie.Need-loop-holds Inv-loop μ-loop
+loop-holds c = search needs
+
+asked-requires : tie.Need-asked-requires Inv-loop μ-loop
+asked-requires c κs = search needs
+
+counted-requires : tie.Need-counted-requires Inv-loop μ-loop
+counted-requires c κs = search needs
+
+said-line-requires : tie.Need-said-line-requires Inv-loop μ-loop
+said-line-requires c κs = search needs
+
+add-k : tie.Need-add-k Inv-loop μ-loop
+add-k c = search needs
+
+loop-less : tie.Need-loop-less Inv-loop μ-loop
+loop-less c = search needs
+
+loop-again : tie.Need-loop-again Inv-loop μ-loop
+loop-again c = search needs
+
+returns : tie.Need-returns Inv-loop μ-loop
+returns c = search needs
+
+pub repeated-spec : {M : Type 1} → statement M
+repeated-spec =
+    tie.close
+    (tie.spec
+    Inv-loop
+    μ-loop
+    loop-holds
+    asked-requires
+    counted-requires
+    said-line-requires
+    add-k
+    loop-less
+    loop-again
+    returns)

@@ -1,0 +1,367 @@
+// Totals beside the keys: a row of calls on a table, which begins empty, and what each is answered.
+use super::lines;
+use cell_key_node::KeyAnswer;
+use cell_key_node::KeyNode;
+use key_totals::Changed;
+use key_totals::KeptAnswer;
+use key_totals::Place;
+use key_totals::Totals;
+use replay_case::Sums;
+use sub_key_walk::WalkRefusal;
+use words::Refusal;
+
+// The calls of a row of at most so many are written out.
+const FEW: u64 = 4;
+
+// The bytes of a call in a name.
+const CALL: usize = 32;
+
+// The places of a table.
+const PLACES: usize = 256;
+
+// A call as a name has it.
+struct Call {
+    kind: u32,
+    times: u32,
+    position: u64,
+    base: u32,
+    budget: u32,
+    count: u32,
+    list: u32,
+}
+
+// What a call is answered; nothing where no call is made.
+enum Said {
+    Number(u64),
+    Refused(WalkRefusal),
+    Nothing,
+}
+
+// The table after a call, and what it is answered.
+struct Made {
+    table: Totals,
+    said: Said,
+}
+
+// What is told of a row's calls: how many were answered, how many of them succeeded, and the sums of the answers.
+struct Tally {
+    calls: u64,
+    good: u64,
+    sums: Sums,
+}
+
+// The table after a row of calls, and what is told of them.
+struct Row {
+    table: Totals,
+    tally: Tally,
+}
+
+pub fn walk_refused(refusal: WalkRefusal) {
+    lines::text(b" refused");
+    lines::word(refusal.number);
+    lines::number(refusal.position as u64);
+    lines::word(refusal.lists);
+    lines::word(refusal.places);
+    lines::word(refusal.entries);
+    lines::word(refusal.dropped);
+}
+
+// The call that these bytes are.
+fn call_in(bytes: &[u8]) -> Call {
+    Call {
+        kind: words::u32_at(bytes, 0),
+        times: words::u32_at(bytes, 4),
+        position: words::u64_at(bytes, 8),
+        base: words::u32_at(bytes, 16),
+        budget: words::u32_at(bytes, 20),
+        count: words::u32_at(bytes, 24),
+        list: words::u32_at(bytes, 28),
+    }
+}
+
+// A key record of a count and a list, each other field with a number of its own.
+fn made_up(count: u32, list: u32) -> KeyNode {
+    KeyNode {
+        size: -4001,
+        allocated: true,
+        key_node_flag_bits: 4002,
+        last_key_written_time: 4003,
+        access_flag_bits: 4004,
+        parent_key_offset_relative: 4005,
+        number_of_sub_keys: count,
+        number_of_volatile_sub_keys: 4006,
+        sub_keys_list_offset_relative: list,
+        volatile_sub_keys_list_offset_relative: 4007,
+        number_of_key_values: 4008,
+        key_values_list_offset_relative: 4009,
+        security_key_offset_relative: 4010,
+        class_name_offset_relative: 4011,
+        largest_sub_key_name_size: 4012,
+        largest_sub_key_class_name_size: 4013,
+        largest_value_name_size: 4014,
+        largest_value_data_size: 4015,
+        work_var: 4016,
+        key_name_size: 4017,
+        class_name_size: 4018,
+    }
+}
+
+fn told(answer: KeptAnswer) -> Said {
+    match answer {
+        KeptAnswer::Kept(kept) => Said::Number(kept as u64),
+        KeptAnswer::Refused(refusal) => Said::Refused(refusal),
+    }
+}
+
+fn changed(after: Changed) -> Made {
+    let table = after.table;
+    let answer = after.answer;
+    Made {
+        table,
+        said: told(answer),
+    }
+}
+
+// No call is made.
+fn unasked(table: Totals) -> Made {
+    Made {
+        table,
+        said: Said::Nothing,
+    }
+}
+
+fn added(table: Totals, image: &[u8], call: Call, position: usize, key: KeyNode) -> Made {
+    changed(key_totals::add(table, image, call.base, position, key, call.budget))
+}
+
+fn replaced(table: Totals, image: &[u8], call: Call, position: usize, key: KeyNode) -> Made {
+    changed(key_totals::replace(table, image, call.base, position, key, call.budget))
+}
+
+// The key record at the position is refused, and no call is made.
+fn unread(table: Totals, refusal: Refusal) -> Made {
+    Made {
+        table,
+        said: Said::Refused(WalkRefusal {
+            number: refusal.number,
+            position: refusal.position,
+            lists: 0,
+            places: 0,
+            entries: 0,
+            dropped: 0,
+        }),
+    }
+}
+
+// Adding, or replacing, with the key record at the position.
+fn by_record(table: Totals, image: &[u8], call: Call, position: usize) -> Made {
+    match cell_key_node::read_key_node(image, position) {
+        KeyAnswer::Key(key) => {
+            if call.kind == 8 {
+                added(table, image, call, position, key)
+            } else {
+                replaced(table, image, call, position, key)
+            }
+        }
+        KeyAnswer::Refused(refusal) => unread(table, refusal),
+    }
+}
+
+fn entry(table: Totals, position: usize) -> Made {
+    Made {
+        table,
+        said: told(key_totals::kept_of(table, position)),
+    }
+}
+
+fn sum(table: Totals) -> Made {
+    Made {
+        table,
+        said: Said::Number(key_totals::total_of(table)),
+    }
+}
+
+// A place written by hand.
+fn laid(table: Totals, at: u32, call: Call, position: usize) -> Made {
+    let mut next = table;
+    let i = (at % 256) as usize;
+    let place = Place {
+        taken: call.budget % 2 == 1,
+        position,
+        kept: call.count,
+    };
+    next.places[i] = place;
+    unasked(next)
+}
+
+// The total written by hand.
+fn with_total(table: Totals, total: u64) -> Made {
+    let mut next = table;
+    next.total = total;
+    unasked(next)
+}
+
+// A call the k-th time.
+fn asked(table: Totals, image: &[u8], call: Call, k: u32) -> Made {
+    let total = std::num::wrapping_add_u64(call.position, k as u64);
+    let position = total as usize;
+    let kind = call.kind;
+    match kind {
+        0 => added(table, image, call, position, made_up(call.count, call.list)),
+        1 => replaced(table, image, call, position, made_up(call.count, call.list)),
+        2 => changed(key_totals::remove(table, position)),
+        3 => entry(table, position),
+        4 => sum(table),
+        5 => laid(
+            table,
+            std::num::wrapping_add_u32(call.base, k),
+            call,
+            position,
+        ),
+        6 => with_total(table, total),
+        7 => unasked(key_totals::empty()),
+        8 | 9 => by_record(table, image, call, position),
+        _ => unasked(table),
+    }
+}
+
+fn said_line(said: Said) {
+    match said {
+        Said::Number(number) => {
+            lines::text(b" call ok");
+            lines::number(number);
+        }
+        Said::Refused(refusal) => {
+            lines::text(b" call");
+            walk_refused(refusal);
+        }
+        Said::Nothing => {}
+    }
+}
+
+// The sums with the numbers of a refusal.
+fn with_refusal(sums: Sums, refusal: WalkRefusal) -> Sums {
+    let sums = replay_case::more(sums, refusal.number as u64);
+    let sums = replay_case::more(sums, refusal.position as u64);
+    let sums = replay_case::more(sums, refusal.lists as u64);
+    let sums = replay_case::more(sums, refusal.places as u64);
+    let sums = replay_case::more(sums, refusal.entries as u64);
+    replay_case::more(sums, refusal.dropped as u64)
+}
+
+// What is told with one call more, and the stored total behind its answer.
+fn counted(tally: Tally, said: Said, total: u64) -> Tally {
+    match said {
+        Said::Number(number) => Tally {
+            calls: std::num::wrapping_add_u64(tally.calls, 1),
+            good: std::num::wrapping_add_u64(tally.good, 1),
+            sums: replay_case::more(replay_case::more(tally.sums, number), total),
+        },
+        Said::Refused(refusal) => Tally {
+            calls: std::num::wrapping_add_u64(tally.calls, 1),
+            good: tally.good,
+            sums: replay_case::more(with_refusal(tally.sums, refusal), total),
+        },
+        Said::Nothing => tally,
+    }
+}
+
+// A call as many times as it says.
+fn repeated(row: Row, image: &[u8], call: Call, shown: bool) -> Row {
+    let mut table = row.table;
+    let mut tally = row.tally;
+    let mut k: u32 = 0;
+    while k < call.times {
+        let after = asked(table, image, call, k);
+        let said = after.said;
+        table = after.table;
+        tally = counted(tally, said, table.total);
+        if shown {
+            said_line(said);
+        }
+        k += 1;
+    }
+    Row { table, tally }
+}
+
+// The calls that a name holds.
+fn all_calls(image: &[u8], name: &[u8], shown: bool) -> Row {
+    let mut row = Row {
+        table: key_totals::empty(),
+        tally: Tally {
+            calls: 0,
+            good: 0,
+            sums: Sums {
+                plain: 0,
+                running: 0,
+            },
+        },
+    };
+    let mut at: usize = 0;
+    while CALL <= name.len() - at {
+        row = repeated(row, image, call_in(&name[at..at + CALL]), shown);
+        at += CALL;
+    }
+    row
+}
+
+// How many of the places so far are taken, and the sums of their numbers.
+struct Seen {
+    taken: u64,
+    sums: Sums,
+}
+
+fn with_place(seen: Seen, place: Place) -> Seen {
+    let one = if place.taken { 1 } else { 0 };
+    let sums = replay_case::more(seen.sums, one);
+    let sums = replay_case::more(sums, place.position as u64);
+    Seen {
+        taken: std::num::wrapping_add_u64(seen.taken, one),
+        sums: replay_case::more(sums, place.kept as u64),
+    }
+}
+
+fn all_places(table: Totals) -> Seen {
+    let mut seen = Seen {
+        taken: 0,
+        sums: Sums {
+            plain: 0,
+            running: 0,
+        },
+    };
+    let mut i: usize = 0;
+    while i < PLACES {
+        let place = table.places[i];
+        seen = with_place(seen, place);
+        i += 1;
+    }
+    seen
+}
+
+// A table: the places taken, the stored total, and the places' numbers as a row.
+fn table_line(table: Totals) {
+    let seen = all_places(table);
+    lines::number(seen.taken);
+    lines::number(table.total);
+    lines::text(b" 768");
+    let sums = seen.sums;
+    lines::number(sums.plain);
+    lines::number(sums.running);
+}
+
+// The calls and their sums, and the table; a row of few calls is gone through again, and each answer written out.
+pub fn row_of_calls(image: &[u8], name: &[u8]) {
+    let row = all_calls(image, name, false);
+    let tally = row.tally;
+    lines::text(b" ok");
+    lines::number(tally.calls);
+    lines::number(tally.good);
+    let sums = tally.sums;
+    lines::number(sums.plain);
+    lines::number(sums.running);
+    if tally.calls <= FEW {
+        all_calls(image, name, true);
+    }
+    let table = row.table;
+    table_line(table);
+}

@@ -43,11 +43,20 @@ struct Made {
     said: Said,
 }
 
-// What is told of a row's calls: how many were answered, how many of them succeeded, and the sums of the answers.
+// The first four answers of a row.
+struct First {
+    one: Said,
+    two: Said,
+    three: Said,
+    four: Said,
+}
+
+// What is told of a row's calls: how many were answered, how many of them succeeded, the sums of the answers, and the first of them.
 struct Tally {
     calls: u64,
     good: u64,
     sums: Sums,
+    first: First,
 }
 
 // The table after a row of calls, and what is told of them.
@@ -181,19 +190,6 @@ fn sum(table: Totals) -> Made {
     }
 }
 
-// A place written by hand.
-fn laid(table: Totals, at: u32, call: Call, position: usize) -> Made {
-    let mut next = table;
-    let i = (at % 256) as usize;
-    let place = Place {
-        taken: call.budget % 2 == 1,
-        position,
-        kept: call.count,
-    };
-    next.places[i] = place;
-    unasked(next)
-}
-
 // The total written by hand.
 fn with_total(table: Totals, total: u64) -> Made {
     let mut next = table;
@@ -212,12 +208,6 @@ fn asked(table: Totals, image: &[u8], call: Call, k: u32) -> Made {
         2 => changed(key_totals::remove(table, position)),
         3 => entry(table, position),
         4 => sum(table),
-        5 => laid(
-            table,
-            std::num::wrapping_add_u32(call.base, k),
-            call,
-            position,
-        ),
         6 => with_total(table, total),
         7 => unasked(key_totals::empty()),
         8 | 9 => by_record(table, image, call, position),
@@ -249,6 +239,41 @@ fn with_refusal(sums: Sums, refusal: WalkRefusal) -> Sums {
     replay_case::more(sums, refusal.dropped as u64)
 }
 
+// An answer behind so many others.
+fn noted(first: First, before: u64, said: Said) -> First {
+    let one = first.one;
+    let two = first.two;
+    let three = first.three;
+    let four = first.four;
+    match before {
+        0 => First {
+            one: said,
+            two,
+            three,
+            four,
+        },
+        1 => First {
+            one,
+            two: said,
+            three,
+            four,
+        },
+        2 => First {
+            one,
+            two,
+            three: said,
+            four,
+        },
+        3 => First {
+            one,
+            two,
+            three,
+            four: said,
+        },
+        _ => first,
+    }
+}
+
 // What is told with one call more, and the stored total behind its answer.
 fn counted(tally: Tally, said: Said, total: u64) -> Tally {
     match said {
@@ -256,37 +281,64 @@ fn counted(tally: Tally, said: Said, total: u64) -> Tally {
             calls: std::num::wrapping_add_u64(tally.calls, 1),
             good: std::num::wrapping_add_u64(tally.good, 1),
             sums: replay_case::more(replay_case::more(tally.sums, number), total),
+            first: noted(tally.first, tally.calls, said),
         },
         Said::Refused(refusal) => Tally {
             calls: std::num::wrapping_add_u64(tally.calls, 1),
             good: tally.good,
             sums: replay_case::more(with_refusal(tally.sums, refusal), total),
+            first: noted(tally.first, tally.calls, said),
         },
         Said::Nothing => tally,
     }
 }
 
+// The place that a call writes by hand the k-th time.
+fn by_hand(call: Call, k: u32) -> Place {
+    Place {
+        taken: call.budget % 2 == 1,
+        position: std::num::wrapping_add_u64(call.position, k as u64) as usize,
+        kept: call.count,
+    }
+}
+
+// Places written by hand, as many as the call says.
+fn laid(table: Totals, call: Call) -> Totals {
+    let mut next = table;
+    let mut k: u32 = 0;
+    while k < call.times {
+        let place = by_hand(call, k);
+        let i = (std::num::wrapping_add_u32(call.base, k) % 256) as usize;
+        next.places[i] = place;
+        k += 1;
+    }
+    next
+}
+
 // A call as many times as it says.
-fn repeated(row: Row, image: &[u8], call: Call, shown: bool) -> Row {
+fn repeated(row: Row, image: &[u8], call: Call) -> Row {
     let mut table = row.table;
     let mut tally = row.tally;
+    if call.kind == 5 {
+        return Row {
+            table: laid(table, call),
+            tally,
+        };
+    }
     let mut k: u32 = 0;
     while k < call.times {
         let after = asked(table, image, call, k);
         let said = after.said;
         table = after.table;
         tally = counted(tally, said, table.total);
-        if shown {
-            said_line(said);
-        }
         k += 1;
     }
     Row { table, tally }
 }
 
-// The calls that a name holds.
-fn all_calls(image: &[u8], name: &[u8], shown: bool) -> Row {
-    let mut row = Row {
+// No call yet.
+fn begin() -> Row {
+    Row {
         table: key_totals::empty(),
         tally: Tally {
             calls: 0,
@@ -295,11 +347,22 @@ fn all_calls(image: &[u8], name: &[u8], shown: bool) -> Row {
                 plain: 0,
                 running: 0,
             },
+            first: First {
+                one: Said::Nothing,
+                two: Said::Nothing,
+                three: Said::Nothing,
+                four: Said::Nothing,
+            },
         },
-    };
+    }
+}
+
+// The calls that a name holds.
+fn all_calls(image: &[u8], name: &[u8]) -> Row {
+    let mut row = begin();
     let mut at: usize = 0;
     while CALL <= name.len() - at {
-        row = repeated(row, image, call_in(&name[at..at + CALL]), shown);
+        row = repeated(row, image, call_in(&name[at..at + CALL]));
         at += CALL;
     }
     row
@@ -349,9 +412,20 @@ fn table_line(table: Totals) {
     lines::number(sums.running);
 }
 
-// The calls and their sums, and the table; a row of few calls is gone through again, and each answer written out.
+fn first_line(first: First) {
+    let one = first.one;
+    said_line(one);
+    let two = first.two;
+    said_line(two);
+    let three = first.three;
+    said_line(three);
+    let four = first.four;
+    said_line(four);
+}
+
+// The calls and their sums, each answer of a row of few, and the table.
 pub fn row_of_calls(image: &[u8], name: &[u8]) {
-    let row = all_calls(image, name, false);
+    let row = all_calls(image, name);
     let tally = row.tally;
     lines::text(b" ok");
     lines::number(tally.calls);
@@ -360,7 +434,8 @@ pub fn row_of_calls(image: &[u8], name: &[u8]) {
     lines::number(sums.plain);
     lines::number(sums.running);
     if tally.calls <= FEW {
-        all_calls(image, name, true);
+        let first = tally.first;
+        first_line(first);
     }
     let table = row.table;
     table_line(table);

@@ -963,7 +963,7 @@ fn stored_parts(o: &mut Out<impl Write>, seed: u64, files: &[String]) {
     hive_parts(o, &mut Rng(seed), files, 3);
     short_names(o);
     totals(o, false);
-    any_totals(o, &mut Rng(seed), 30, SMALL.0);
+    any_totals(o, &mut Rng(seed), 20, SMALL.0);
     hive_totals(o, &mut Rng(seed), files, 2);
 }
 
@@ -1796,7 +1796,7 @@ fn totals(o: &mut Out<impl Write>, more: bool) {
     for kind in [2, 3, 4, 5, 6, 7, 10, 11, u32::MAX] { for n in [0, 1, 2] { o.calls(&[call(kind, n, 7, [3, 1, 9, 0]), whole()]); } }
     for &from in &all { for &p in &ends[..if more { 9 } else { 3 }] { o.calls(&[add(p, from), entry(p), whole()]); o.calls(&[replace(p, from)]); } }
     // one key, then each call on it and beside it: 19 and 16 before what the walk refuses, and another number in its place
-    for &first in if more { &good[..] } else { &good[..4] } { for &second in &all { for q in [7, 8] {
+    for &first in &good[..if more { good.len() } else { 2 }] { for &second in &all { for q in [7, 8] {
         o.calls(&[add(7, first), add(q, second), whole()]);
         o.calls(&[add(7, first), replace(q, second), entry(7), whole()]);
         if more || q == 7 { o.calls(&[add(7, first), replace(q, second), add(8, first), remove(q), entry(7), entry(8), whole()]); }
@@ -1808,15 +1808,19 @@ fn totals(o: &mut Out<impl Write>, more: bool) {
     // positions that pass 2^64
     for p in [u64::MAX, u64::MAX - 2, u32::MAX as u64 - 2] { o.calls(&[times(5, add(p, good[0])), times(3, remove(p)), times(5, entry(p)), whole()]); }
     // the table full, by calls and by hand: what is in, what is not; removed and added again
-    let full = times(256, add(100, good[1]));
     let by_hand = [times(256, call(5, 1, 100, [0, 1, 2, 0])), total(512)];
+    let full = if more { vec![times(256, add(100, good[1]))] } else { by_hand.to_vec() };
     for (i, &from) in all.iter().enumerate() { for q in [99, 100, 227, 355, 356] {
         if !more && (i % 3 == 1 && i < good.len() || q > 100 && i % 5 > 0) { continue; }
         o.calls(&[&by_hand[..], &[add(q, from), whole()]].concat());
         if more || q > 100 { o.calls(&[&by_hand[..], &[replace(q, from), entry(q), whole()]].concat()); }
-        if more || i % 9 == 3 { o.calls(&[full, add(q, from), whole()]); o.calls(&[full, replace(q, from), remove(q), add(q, from), add(q + 1000, from), whole()]); }
+        if more { o.calls(&[&full[..], &[add(q, from), whole()]].concat()); }
+        o.calls(&[&full[..], &[replace(q, from), remove(q), add(q, from), add(q + 1000, from), whole()]].concat());
     } }
-    for n in [0, 1, 254, 255, 256, 257, 300] { o.calls(&[times(n, add(1, good[0])), whole()]); o.calls(&[times(n, add(1, good[3])), times(300, remove(0)), whole(), times(3, add(9, good[1]))]); }
+    for n in [0, 1, 254, 255, 256, 257, 300] {
+        if more || n < 2 || n == 256 || n == 257 { o.calls(&[times(n, add(1, good[0])), whole()]); }
+        if more || n == 256 { o.calls(&[times(n, add(1, good[3])), times(300, remove(0)), whole(), times(3, add(9, good[1]))]); }
+    }
     // freed places: the first of several, in any order of removing
     let six = times(6, add(40, good[0]));
     for gone in [&[40][..], &[45], &[43, 41], &[41, 43], &[44, 42, 40], &[40, 41, 42, 43, 44, 45], &[45, 44, 43, 42, 41, 40], &[42, 42, 39, 46]] {
@@ -1826,18 +1830,18 @@ fn totals(o: &mut Out<impl Write>, more: bool) {
         for (i, &from) in good.iter().chain(&bad[..2]).enumerate() { row.push(add(60 + i as u64, from)); if more || i % 3 == 0 { o.calls(&row); } }
         row.push(whole());
         o.calls(&row);
-        if more || gone.len() > 3 { let row = [&[full, times(6, remove(140))], &row[..]].concat(); o.calls(&row); }
+        o.calls(&[&full[..], &[times(6, remove(140))], &row[..]].concat());
     }
     o.calls(&[six, clear(), whole(), entry(40), add(40, good[3])]);
     // a position that stands twice, its first place taken or free: the first that is taken is meant, then the next one
-    for (a, b) in [(0, 1), (3, 200), (200, 3), (255, 0)] { for first in [false, true] { for &from in &all[..if more { all.len() } else { 4 }] {
+    for (a, b) in [(0, 1), (3, 200), (200, 3), (255, 0)] { for first in [false, true] { for &from in &all[..if more { all.len() } else { 2 }] {
         let table = [hand(a, first, 7, 10), hand(b, true, 7, 20), hand(9, true, 8, 5), total(35)];
         for acts in [&[add(7, from)][..], &[replace(7, from), entry(7)], &[remove(7), entry(7)], &[remove(7), remove(7), remove(7)], &[remove(7), add(7, from), remove(7)], &[add(70, from), replace(7, from)]] {
             o.calls(&[&table[..], acts, &[whole()]].concat());
         }
     } } }
     // totals that turn over, and numbers of 32 bits
-    for kept in [0, 1, 5, 300, u32::MAX] { for sum in [0, 1, 4, 5, u32::MAX as u64, 1 << 32, (1 << 63) - 1, u64::MAX - 299, u64::MAX - 1, u64::MAX] {
+    for kept in [0, 1, 5, 300, u32::MAX] { for &sum in &[0, 4, 5, u32::MAX as u64, u64::MAX - 299, u64::MAX, 1, 1 << 32, (1 << 63) - 1, u64::MAX - 1][..if more { 10 } else { 6 }] {
         let table = [hand(2, true, 7, kept), hand(1, false, 7, 77), hand(0, false, 0, u32::MAX), total(sum)];
         for &act in &[remove(7), replace(7, good[0]), replace(7, good[5]), replace(7, good[2]), add(8, good[5]), add(8, good[2]), add(7, good[0]), replace(7, bad[1])][..if more || kept > 300 { 8 } else { 5 }] {
             o.calls(&[&table[..], &[act, whole()]].concat());
@@ -1869,7 +1873,7 @@ fn totals(o: &mut Out<impl Write>, more: bool) {
         o.calls(&[add_key(at, base, budget), entry(at), whole()]);
         o.calls(&[add_key(at, base, budget), add_key(at, base, budget), replace_key(at, base, budget), whole()]);
         o.calls(&[replace_key(at, base, budget), add(at, good[0]), replace_key(at, base, budget), remove(at)]);
-        if more || i % 9 == 3 { o.calls(&[full, add_key(at, base, budget), whole()]); }
+        o.calls(&[&full[..], &[add_key(at, base, budget), whole()]].concat());
         if i > 0 && !more { continue; }
         let n = m.len();
         let faults: [(usize, usize, Vec<u8>); 9] = [(n, 4, b"vk".to_vec()), (n, 0, signed(-79).to_vec()), (n, 0, signed(97).to_vec()), (n, 0, vec![0; 4]), (n, 76, vec![17, 0]), (n - 17, 4, b"nk".to_vec()), (n - 96, 0, vec![]), (n - 97, 0, vec![]), (n - 9, 4, b"nk".to_vec())];
@@ -1881,7 +1885,7 @@ fn totals(o: &mut Out<impl Write>, more: bool) {
             for p in [at, at + 1, u64::MAX - at] {
                 o.calls(&[add_key(p, base, budget), whole()]);
                 o.calls(&[add(p, good[0]), add_key(p, base, budget), replace_key(p, base, budget), remove(p)]);
-                if more || place == 76 { o.calls(&[full, replace_key(p, base, budget), whole()]); }
+                o.calls(&[&full[..], &[replace_key(p, base, budget), whole()]].concat());
             }
         }
     }
@@ -1942,7 +1946,7 @@ fn any_totals(o: &mut Out<impl Write>, r: &mut Rng, random: u64, most: usize) {
             o.calls(&row);
         }
         // full and drained
-        if i % 5 == 0 {
+        if i % 10 == 0 {
             let (mut row, mut at) = (vec![], 0u64);
             while at < 256 { let n = r.range(1, 120) as u32; row.push(times(n, add(7 + at, r.pick(&walks)))); at += n as u64; }
             for _ in 0..r.range(1, 6) { row.push(any_call(r, &walks, 300)); }
@@ -1983,7 +1987,7 @@ fn hive_totals(o: &mut Out<impl Write>, r: &mut Rng, files: &[String], copies: u
             // the rest of the table with others beside these
             row.push(times(260, call(0, 1, 1, [4096, 1024, 0, 0])));
             row.push(add_key(r.pick(&keys), 4096, 1024));
-            if copy % 5 == 0 { o.calls(&row); }
+            if copy % 5 == 0 && (copies > 2 || keys.len() > 20) { o.calls(&row); }
             for _ in 0..6 {
                 let (p, q) = (r.pick(&keys), r.pick(&keys));
                 o.calls(&[add_key(p, 4096, r.pick(&[0, 1, 1024])), add_key(q, 4096, 1024), replace_key(p, r.pick(&[4096, 0, 4096]), 1024), remove(q)]);

@@ -5,13 +5,13 @@ use Rattle.replay_paper.proofs.totals.all_calls.Statement.{statement}
 use Rattle.replay_paper.proofs.totals.all_calls.Tie as tie
 
 abbrev Inv-loop : tie.InvT-loop
-Inv-loop image name shown row₀ at₀ row at = at ≤ length name
+Inv-loop image name row₀ at₀ row at = at ≤ length name
 
 abbrev μ-loop : tie.MeasureT-loop
-μ-loop image name shown row₀ at₀ row at = length name - at
+μ-loop image name row₀ at₀ row at = length name - at
 
-empty-requires : tie.Need-empty-requires Inv-loop μ-loop
-empty-requires c κs = search needs
+begin-requires : tie.Need-begin-requires Inv-loop μ-loop
+begin-requires c κs = search needs
 
 loop-holds : tie.Need-loop-holds Inv-loop μ-loop
 loop-holds c = search needs
@@ -55,7 +55,7 @@ all-calls-spec =
     (tie.spec
     Inv-loop
     μ-loop
-    empty-requires
+    begin-requires
     loop-holds
     sub-loop
     add-call-in

@@ -4,10 +4,16 @@ use Rattle.replay_paper.proofs.totals.repeated.Statement.{statement}
 use Rattle.replay_paper.proofs.totals.repeated.Tie as tie
 
 abbrev Inv-loop : tie.InvT-loop
-Inv-loop image call shown table₀ tally₀ k₀ table tally k = k ≤ call .times
+Inv-loop image call table₀ tally₀ k₀ table tally k = k ≤ call .times
 
 abbrev μ-loop : tie.MeasureT-loop
-μ-loop image call shown table₀ tally₀ k₀ table tally k = call .times - k
+μ-loop image call table₀ tally₀ k₀ table tally k = call .times - k
+
+laid-requires : tie.Need-laid-requires Inv-loop μ-loop
+laid-requires c κs = search needs
+
+returns : tie.Need-returns Inv-loop μ-loop
+returns c = search needs
 
 loop-holds : tie.Need-loop-holds Inv-loop μ-loop
 loop-holds c = search needs
@@ -18,9 +24,6 @@ asked-requires c κs = search needs
 counted-requires : tie.Need-counted-requires Inv-loop μ-loop
 counted-requires c κs = search needs
 
-said-line-requires : tie.Need-said-line-requires Inv-loop μ-loop
-said-line-requires c κs = search needs
-
 add-k : tie.Need-add-k Inv-loop μ-loop
 add-k c = search needs
 
@@ -30,8 +33,8 @@ loop-less c = search needs
 loop-again : tie.Need-loop-again Inv-loop μ-loop
 loop-again c = search needs
 
-returns : tie.Need-returns Inv-loop μ-loop
-returns c = search needs
+returns-2 : tie.Need-returns-2 Inv-loop μ-loop
+returns-2 c = search needs
 
 pub repeated-spec : {M : Type 1} → statement M
 repeated-spec =
@@ -39,11 +42,12 @@ repeated-spec =
     (tie.spec
     Inv-loop
     μ-loop
+    laid-requires
+    returns
     loop-holds
     asked-requires
     counted-requires
-    said-line-requires
     add-k
     loop-less
     loop-again
-    returns)
+    returns-2)

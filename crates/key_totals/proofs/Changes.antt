@@ -161,17 +161,15 @@ module _ (s : List ℕ) (t : Totals) (l : Long t) where
   is-no-other (remove q) n p m d e = free-entry free p m refl e
 
   -- its number has 32 bits
+  counted-small : Bytes s → (base : ℕ) (key : KeyNode) (budget n : ℕ) → Counted s base key budget n → n < 2 ^ 32
+  counted-small b base key budget n w =
+      let k = kept-most s b base (key .«number_of_sub_keys») (key .«sub_keys_list_offset_relative») budget (w .0) (w .1) in
+      let e : w .0 .kept ≡ n = w .2 in
+      omega arith
+
   is-small : Bytes s → (c : Call) (n : ℕ) → Change s t c n → contentOf c n .kept < 2 ^ 32
-  is-small b (add base p key budget) n h =
-      let w = h .source .1 in
-      let k = kept-most s b base (key .«number_of_sub_keys») (key .«sub_keys_list_offset_relative») budget (w .0) (w .1) in
-      let e : w .0 .kept ≡ n = w .2 in
-      omega arith
-  is-small b (replace base p key budget) n h =
-      let w = h .source in
-      let k = kept-most s b base (key .«number_of_sub_keys») (key .«sub_keys_list_offset_relative») budget (w .0) (w .1) in
-      let e : w .0 .kept ≡ n = w .2 in
-      omega arith
+  is-small b (add base p key budget) n h = counted-small b base key budget n (h .source .1)
+  is-small b (replace base p key budget) n h = counted-small b base key budget n (h .source)
   is-small b (remove p) n h = omega arith
 
   -- a key that is added stood nowhere, and one that is replaced in no other place

@@ -2,7 +2,7 @@
 use mathlib.Core.Path.{_≡_, refl, ap, sym, _∙_}
 use mathlib.Core.Bool.{Bool, true, false, not, _&&_}
 use Prim.Native.Nat.{ℕ, _≤_, _<_}
-use native.Mathlib.Omega.{arith}
+use native.Mathlib.Omega.{arith, by-contra}
 use borrow.Author.Tests.{eq-eqb, eqb-true}
 use lib.Dec.{eqb}
 use lib.ListN.{length, getD, List·getD-eq-default}
@@ -11,7 +11,7 @@ use Rattle.key_totals.specs.declared.Totals.{Totals}
 use Rattle.key_totals.specs.declared.Wanted.the-variants.{Free, Key}
 use Rattle.key_totals.specs.Table.{PLACES, free, entry, suits, placeOf, freeOf, numberIn}
 use Rattle.key_totals.specs.Rows.{total, one, entriesIn, Entry, Has, Long, Finds}
-use Rattle.key_totals.proofs.Places.{true-false, not-below, first-before, first-at}
+use Rattle.key_totals.proofs.Places.{true-false, first-before, first-at}
 use Rattle.key_totals.proofs.Sums.{taken-all, taken-some}
 
 -- ---- a place and the key that is looked for
@@ -43,7 +43,7 @@ same-number h = ap (λ (x : Place). x .kept) h
 
 -- past the places there is no entry
 pub entry-inside : (t : Totals) (i p n : ℕ) → Entry t i p n → i < length (t .places)
-entry-inside t i p n e = not-below (λ l. free-entry free p n refl (sym (List·getD-eq-default (t .places) free (omega arith)) ∙ e))
+entry-inside t i p n e = by-contra _ _ (λ l. free-entry free p n refl (sym (List·getD-eq-default (t .places) free (omega arith)) ∙ e))
 
 -- ---- what is found
 
@@ -70,7 +70,7 @@ module _ (t : Totals) (l : Long t) where
       true-false (entry-suits p n (getD (t .places) i free) e) (first-before (suits (Key p)) (t .places) i (omega arith))
 
   has-place : (p : ℕ) → Has t p → placeOf t p < PLACES
-  has-place p h = not-below (λ k. nowhere p (omega arith) (h .0) (h .1) (h .2))
+  has-place p h = by-contra _ _ (λ k. nowhere p (omega arith) (h .0) (h .1) (h .2))
 
   taken-before : (i : ℕ) → i < freeOf t → getD (t .places) i free .taken ≡ true
   unfolding suits
@@ -86,7 +86,7 @@ module _ (t : Totals) (l : Long t) where
   taken-full : entriesIn t ≡ PLACES → PLACES ≤ freeOf t
   taken-full e =
       let m : length (t .places) ≡ 256 = l in
-      not-below (λ k. let s : total one (t .places) < length (t .places) = taken-some (t .places) (rw l k) in omega arith)
+      by-contra _ _ (λ k. let s : total one (t .places) < length (t .places) = taken-some (t .places) (rw l k) in omega arith)
 
   pub finds : Finds t
   finds =

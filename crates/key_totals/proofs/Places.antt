@@ -5,9 +5,9 @@ use mathlib.Core.List.{List, [], _∷_, map}
 use mathlib.Core.Bool.{Bool, true, false, cond}
 use Prim.Native.Nat.{ℕ, zero, suc, _+_, _≤_, _<_}
 use native.Mathlib.Numerals.{add-one}
-use native.Mathlib.Omega.{arith}
-use borrow.Author.Tests.{ltb-true, ltb-false, eqb-true, eqb-false}
-use lib.Dec.{ltb, eqb}
+use native.Mathlib.Omega.{arith, by-contra}
+use borrow.Author.Tests.{eqb-true, eqb-false}
+use lib.Dec.{eqb}
 use lib.ListN.{length, length-map, drop, getD}
 use lib.Seq.{drop-cons, drop-length}
 use Rattle.key_totals.specs.declared.Place.{Place}
@@ -59,13 +59,6 @@ same-or-not a b = go (eqb a b) refl
     go true q = inl (eqb-true a b q)
     go false q = inr (eqb-false a b q)
 
-pub not-below : {a b : ℕ} → (b < a → ⊥) → a ≤ b
-not-below {a} {b} h = go (ltb b a) refl
-  where
-    go : (x : Bool) → ltb b a ≡ x → a ≤ b
-    go true q = absurd (h (ltb-true _ _ q))
-    go false q = ltb-false _ _ q
-
 module _ (f : Place → Bool) where
   pub first-le : (es : List Place) → firstOf f es ≤ length es
   unfolding firstOf
@@ -108,14 +101,14 @@ module _ (f : Place → Bool) where
     first-is i h e n = let a = above in let b = below in omega arith
       where
         above : firstOf f es ≤ i
-        above = not-below (λ l. true-false e (first-before es i l))
+        above = by-contra _ _ (λ l. true-false e (first-before es i l))
 
         below : i ≤ firstOf f es
-        below = not-below (λ l. true-false (first-at es (omega arith)) (n (firstOf f es) l))
+        below = by-contra _ _ (λ l. true-false (first-at es (omega arith)) (n (firstOf f es) l))
 
     -- none: there is no place of which it is true
     pub first-none : ((k : ℕ) → k < length es → f (getD es k free) ≡ true → ⊥) → length es ≤ firstOf f es
-    first-none n = not-below (λ l. n (firstOf f es) l (first-at es l))
+    first-none n = by-contra _ _ (λ l. n (firstOf f es) l (first-at es l))
 
   -- rows of one length of which the test says the same, place by place
   pub first-same : (es ds : List Place) → length es ≡ length ds → ((k : ℕ) → f (getD es k free) ≡ f (getD ds k free)) → firstOf f es ≡ firstOf f ds

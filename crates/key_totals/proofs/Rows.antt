@@ -10,7 +10,7 @@ use Rattle.words.specs.Paper.{refused, by}
 use Rattle.key_totals.specs.declared.KeptAnswer.{KeptAnswer}
 use Rattle.key_totals.specs.declared.KeptAnswer.the-variants.{Kept, Refused}
 use Prim.Native.Nat.{ℕ, zero, suc, _<_, _^_}
-use native.Mathlib.Omega.{arith}
+use native.Mathlib.Omega.{arith, by-contra}
 use lib.ListN.{replicate, length-replicate, getD}
 use Rattle.words.proofs.Little.{Bytes}
 use Rattle.key_totals.specs.declared.Place.{Place}
@@ -18,7 +18,7 @@ use Rattle.key_totals.specs.declared.Totals.{Totals}
 use Rattle.key_totals.specs.declared.Changed.{Changed}
 use Rattle.key_totals.specs.Table.{PLACES, free, entry, none, countedIn, laid, Outcome, placeOf, numberIn, numberOf, keptPaper}
 use Rattle.key_totals.specs.Rows.{total, Entry, Once, Long, Summed, Call, add, replace, remove, named, called, Answers, After, Began, In, placeFor, contentOf, readAfter, heldBy, heldAfter, Own, Row, Holds}
-use Rattle.key_totals.proofs.Places.{not-below, same-or-not}
+use Rattle.key_totals.proofs.Places.{same-or-not}
 use Rattle.key_totals.proofs.Sums.{summed-fits}
 use Rattle.key_totals.proofs.Entries.{place-entry, free-entry, same-position, same-number, finds}
 use Rattle.key_totals.proofs.Calls.{number-nowhere}
@@ -110,7 +110,7 @@ held-row s b (c ∷ cs) t u m o a p =
     ∙ ap (λ (x : Outcome). heldAfter s (x .table) cs p (heldBy c p (numberOf t p) (called s t c .answer))) (a .1)
 
 none-reads : (p : ℕ) → numberOf none p ≡ refused (by NOT-FOUND 0)
-none-reads p = sym (number-nowhere none p refl (not-below (λ h. none-empty (placeOf none p) p (numberIn none p) (place-entry none (none-summed .long) p h))))
+none-reads p = sym (number-nowhere none p refl (by-contra _ _ (λ h. none-empty (placeOf none p) p (numberIn none p) (place-entry none (none-summed .long) p h))))
 
 row-holds : (s : List ℕ) → Bytes s → (cs : List Call) (t : Totals) → Began s cs t → Row s cs t
 row-holds s b cs t a =

@@ -597,7 +597,8 @@ def one_part(words, name, part):
 
 class Table:
     """ "Keep a table of key position (lent with the key record) and kept number, with the grand total stored." A place has whether it is
-    taken, the position and the number. A table may be written by hand too, and then be one that no call makes. """
+    taken, the position and the number. A table may be written by hand too, and then be one that no call makes. What 02 leaves open is the
+    project's own: of the free places the first is taken, of two with one position the first is meant, and the total has 64 bits. """
 
     def __init__(self):
         # "up to 256 chosen keys"; "a new image starts an empty table"

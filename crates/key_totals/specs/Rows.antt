@@ -150,7 +150,7 @@ abbrev pub heldAfter : List ℕ → Totals → List Call → ℕ → Paper ℕ �
 heldAfter s t [] p h = h
 heldAfter s t (c ∷ cs) p h = heldAfter s (called s t c .table) cs p (heldBy c p h (called s t c .answer))
 
--- ---- "the walk's own" number
+-- ---- the walk's own number
 
 -- the walk from a key record keeps n offsets
 pub record Walked (s : List ℕ) (base : ℕ) (key : KeyNode) (budget n : ℕ) : Type 0 where
@@ -193,7 +193,7 @@ pub record Called (s : List ℕ) (t : Totals) (c : Call) (r : Changed) : Type 0 
   -- one that succeeds changes one place, and says where its number comes from
   pub changes : (n : ℕ) → r .answer ≡ Kept n → (placeFor t c < PLACES) × (r .table ≡ laid t (placeFor t c) (contentOf c n))
   pub gives : (n : ℕ) → r .answer ≡ Kept n → Gives s t c n
-  -- "the number of entries moves by one, none, minus one"
+  -- the number of entries moves by one, none, minus one
   pub moves : (n : ℕ) → r .answer ≡ Kept n → entriesIn (r .table) + fewer c ≡ entriesIn t + more c
   -- an entry that is not named stays in its place, and no other comes; reading it answers the same
   pub stays : (i p n : ℕ) → (p ≡ named c → ⊥) → Entry t i p n ↔ Entry (r .table) i p n
@@ -211,7 +211,7 @@ pub record Called (s : List ℕ) (t : Totals) (c : Call) (r : Changed) : Type 0 
 pub record Row (s : List ℕ) (cs : List Call) (t : Totals) : Type 0 where
   pub summed : Summed t
   pub once : Once t
-  -- "the total never passes 64 bits"
+  -- the total is far below 64 bits
   pub fits : t .total ≤ 256 * (2 ^ 32 - 1)
   -- a key reads as the last call that named it and succeeded left it, and as not found where none did
   pub last : (p : ℕ) → numberOf t p ≡ heldAfter s none cs p (refused (by NOT-FOUND 0))

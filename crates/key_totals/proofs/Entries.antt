@@ -47,6 +47,10 @@ entry-inside t i p n e = by-contra _ _ (λ l. free-entry free p n refl (sym (Lis
 
 -- ---- what is found
 
+negated : (b c : Bool) → not b ≡ c → b ≡ not c
+negated true c e = ap not e
+negated false c e = ap not e
+
 module _ (t : Totals) (l : Long t) where
   in-places : {i : ℕ} → i < PLACES → i < length (t .places)
   in-places h = rw l h
@@ -56,11 +60,7 @@ module _ (t : Totals) (l : Long t) where
 
   pub free-taken : freeOf t < PLACES → getD (t .places) (freeOf t) free .taken ≡ false
   unfolding suits
-  free-taken h = negated (getD (t .places) (freeOf t) free .taken) (first-at (suits Free) (t .places) (in-places h))
-    where
-      negated : (b : Bool) → not b ≡ true → b ≡ false
-      negated true e = sym e
-      negated false e = refl
+  free-taken h = negated (getD (t .places) (freeOf t) free .taken) true (first-at (suits Free) (t .places) (in-places h))
 
   -- a key that has no place is in none
   pub nowhere : (p : ℕ) → PLACES ≤ placeOf t p → (i n : ℕ) → Entry t i p n → ⊥
@@ -74,11 +74,7 @@ module _ (t : Totals) (l : Long t) where
 
   taken-before : (i : ℕ) → i < freeOf t → getD (t .places) i free .taken ≡ true
   unfolding suits
-  taken-before i h = negated (getD (t .places) i free .taken) (first-before (suits Free) (t .places) i h)
-    where
-      negated : (b : Bool) → not b ≡ false → b ≡ true
-      negated true e = refl
-      negated false e = sym e
+  taken-before i h = negated (getD (t .places) i free .taken) false (first-before (suits Free) (t .places) i h)
 
   full-taken : PLACES ≤ freeOf t → entriesIn t ≡ PLACES
   full-taken h = taken-all (t .places) (rw l h) ∙ l

@@ -22,9 +22,6 @@ abbrev pub Left : (Place → Bool) → List Place → ℕ → Type 0
 Left f es i = i + firstOf f (drop i es) ≡ firstOf f es
 
 module _ (f : Place → Bool) (es : List Place) where
-  pub left-start : Left f es 0
-  left-start = omega arith
-
   pub left-end : (i : ℕ) → i ≤ length es → length es ≤ i → Left f es i → i ≡ firstOf f es
   unfolding firstOf
   left-end i h k l =
@@ -60,15 +57,6 @@ same-or-not a b = go (eqb a b) refl
     go false q = inr (eqb-false a b q)
 
 module _ (f : Place → Bool) where
-  pub first-le : (es : List Place) → firstOf f es ≤ length es
-  unfolding firstOf
-  first-le [] = omega arith
-  first-le (e ∷ es) = go (f e) (first-le es)
-    where
-      go : (b : Bool) → firstOf f es ≤ length es → cond b 0 (suc (firstOf f es)) ≤ suc (length es)
-      go true h = omega arith
-      go false h = omega arith
-
   -- of those before it the test is false
   pub first-before : (es : List Place) (k : ℕ) → k < firstOf f es → f (getD es k free) ≡ false
   unfolding firstOf

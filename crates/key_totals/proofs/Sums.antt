@@ -38,11 +38,6 @@ module _ (f : Place → ℕ) where
 
 -- ---- how many are taken
 
--- of a place that is taken the test of a free one is false, and it counts
-wanted-free : (e : Place) (b : Bool) → e .taken ≡ b → (suits Free e ≡ not b) × (one e ≡ cond b 1 0)
-unfolding suits
-wanted-free e b q = (ap not q, ap (λ (x : Bool). cond x 1 0) q)
-
 pub taken-most : (es : List Place) → total one es ≤ length es
 unfolding total
 taken-most [] = omega arith
@@ -82,13 +77,15 @@ counted-kept e = go (e .taken)
     go true = omega arith
     go false = omega arith
 
--- a total that is the sum is far below 64 bits
+-- the sum over 256 places of 32 bits is far below 64 bits
+sum-most : (es : List Place) → length es ≡ PLACES → ((i : ℕ) → getD es i free .kept < 2 ^ 32) → total countedIn es ≤ 256 * (2 ^ 32 - 1)
+sum-most es l s = rw l at (total-most countedIn (2 ^ 32 - 1) es (λ i. let k = counted-kept (getD es i free) in let h = s i in omega arith))
+
+-- and so is a total that is that sum
 pub summed-fits : (t : Totals) → Summed t → t .total ≤ 256 * (2 ^ 32 - 1)
 summed-fits t h =
-    let m = total-most countedIn (2 ^ 32 - 1) (t .places) (λ i. let k = counted-kept (getD (t .places) i free) in let s = h .small i in omega arith) in
-    let l : length (t .places) ≡ 256 = h .long in
+    let m = sum-most (t .places) (h .long) (h .small) in
     let s : t .total ≡ total countedIn (t .places) = h .sum in
-    let n : total countedIn (t .places) ≤ 256 * (2 ^ 32 - 1) = rw l at m in
     omega arith
 
 module _ (t : Totals) (i : ℕ) (e : Place) where
@@ -125,8 +122,7 @@ module _ (t : Totals) (i : ℕ) (e : Place) where
     unfolding laid
     summing =
         let c = laid-total (s .long) h countedIn in
-        let m = total-most countedIn (2 ^ 32 - 1) (laid t i e .places) (λ j. let x = counted-kept (getD (laid t i e .places) j free) in let y = laid-small j in omega arith) in
-        let n : total countedIn (laid t i e .places) ≤ 256 * (2 ^ 32 - 1) = rw (laid-long (s .long)) at m in
+        let n = sum-most (laid t i e .places) (laid-long (s .long)) laid-small in
         let w : t .total ≡ total countedIn (t .places) = s .sum in
         let o = counted-kept (getD (t .places) i free) in
         let b = s .small i in

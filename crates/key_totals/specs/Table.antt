@@ -54,8 +54,8 @@ firstOf f (e ∷ es) = cond (f e) 0 (suc (firstOf f es))
 abbrev pub countedIn : Place → ℕ
 countedIn e = cond (e .taken) (e .kept) 0
 
--- another content of a place: the total loses what was there and gets what is there now, modulo 2^64. That it is never turned over
--- in a table that began empty is `Rows`.
+-- another content of a place: the total loses what was there and gets what is there now, modulo 2^64. In a table
+-- that began empty it is never turned over (Rows.antt: `exact`, `fits`).
 unfoldable pub laid : Totals → ℕ → Place → Totals
 laid t at e = totals (set (t .places) at e) ((t .total + (2 ^ 64 - countedIn (getD (t .places) at free)) + countedIn e) % 2 ^ 64)
 

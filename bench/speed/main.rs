@@ -1,8 +1,10 @@
 //! Times the checksum and the walk in Rattle (linked from libspeed.a) and in plain Rust, over the same slices, in one process.
+mod cases;
 mod plain;
 mod sums;
 mod variants;
 
+use cases::{random_case, wide_case, Case, Random, Row};
 use std::hint::black_box;
 use std::time::Instant;
 
@@ -67,28 +69,6 @@ const SUMS: [(&str, Sum); 7] = [
     ("sheet", sheet),
 ];
 
-/// Numbers that look random, the same in every run.
-struct Random(u64);
-
-impl Random {
-    fn below(&mut self, n: usize) -> usize {
-        self.0 = self.0.wrapping_mul(6364136223846793005).wrapping_add(1442695040888963407);
-        (((self.0 >> 32) * n as u64) >> 32) as usize
-    }
-    fn of<T: Copy>(&mut self, all: &[T]) -> T {
-        all[self.below(all.len())]
-    }
-}
-
-/// What a walk is called with.
-struct Case {
-    image: Vec<u8>,
-    base: u32,
-    count: u32,
-    list: u32,
-    budget: u32,
-}
-
 impl Case {
     fn call(&self, walk: Walk, out: &mut [u32], told: &mut [u64; 5]) -> u32 {
         let (image, out) = (black_box(&self.image[..]), black_box(out));
@@ -112,145 +92,27 @@ impl Case {
     }
 }
 
-/// An image that is built list by list, from the base on.
-struct Build {
-    image: Vec<u8>,
-    base: u32,
-}
-
-impl Build {
-    fn new(base: u32) -> Build {
-        Build { image: vec![0; base as usize], base }
-    }
-    fn list(&mut self, kind: &[u8; 2], entries: impl ExactSizeIterator<Item = u32>) -> u32 {
-        let at = self.image.len();
-        self.image.extend([0; 4]);
-        self.image.extend(kind);
-        self.image.extend((entries.len() as u16).to_le_bytes());
-        for e in entries {
-            self.image.extend(e.to_le_bytes());
-            if matches!(kind, b"lf" | b"lh") {
-                self.image.extend([0x5a; 4]);
-            }
-        }
-        (at - self.base as usize) as u32
-    }
-    fn leaf(&mut self, kind: &[u8; 2], entries: usize) -> u32 {
-        self.list(kind, (0..entries).map(|i| i as u32 * 88 + 32))
-    }
-    fn case(self, list: u32) -> Case {
-        Case { image: self.image, base: self.base, count: 1, list, budget: 65_536 }
-    }
-}
-
-fn word(k: &[u8; 2]) -> &str {
-    std::str::from_utf8(k).unwrap()
-}
-
-struct Row {
-    name: String,
-    case: Case,
+/// A row, with the places that its answer takes, and the times of each walk.
+struct Timed {
+    row: Row,
     places: usize,
     turns: usize,
     times: Vec<Vec<f64>>,
 }
 
-fn rows(turns: usize) -> Vec<Row> {
-    let mut rows = Vec::new();
-    let mut add = |name: String, case: Case, turns: usize| {
-        let told = case.compare(0, 7).1;
-        rows.push(Row { name, case, places: told[3] as usize, turns, times: Vec::new() });
-    };
-    for n in [16, 1_000, 16_000, 65_535] {
-        for kind in [b"li", b"lh"] {
-            let mut b = Build::new(4096);
-            let list = b.leaf(kind, n);
-            add(format!("one `{}` of {n}", word(kind)), b.case(list), turns);
-        }
+impl Timed {
+    fn new(row: Row, turns: usize) -> Timed {
+        let places = row.case.compare(0, 7).1[3] as usize;
+        let (number, told) = row.case.compare(places + 3, 5);
+        assert_eq!((number, told[3] as usize), (0, places), "{}", row.name);
+        let turns = if places > 1_000_000 { many(turns) } else { turns };
+        Timed { row, places, turns, times: Vec::new() }
     }
-    let mut b = Build::new(4096);
-    let list = b.list(b"li", (0..16_000).map(|i| if i % 97 == 0 { u32::MAX - i } else { i * 88 + 32 }));
-    add("one `li` of 16000, every 97th dropped".into(), b.case(list), turns);
-    for (leaves, n) in [(16, 16), (1_000, 16), (1_000, 2)] {
-        for kind in [b"li", b"lh"] {
-            let mut b = Build::new(4096);
-            let named: Vec<u32> = (0..leaves).map(|_| b.leaf(kind, n)).collect();
-            let list = b.list(b"ri", named.into_iter());
-            add(format!("`ri` over {leaves} `{}` of {n}", word(kind)), b.case(list), turns);
-        }
-    }
-    for wide in [1, 2] {
-        let mut b = Build::new(4096);
-        let mut level: Vec<u32> = (0..(wide as usize).pow(7)).map(|_| b.leaf(b"lh", 16)).collect();
-        for _ in 0..7 {
-            level = level.chunks(wide).map(|c| b.list(b"ri", c.to_vec().into_iter())).collect();
-        }
-        add(format!("eight levels, {wide} named in each `ri`, `lh` of 16"), b.case(level[0]), turns);
-    }
-    // growth: a leaf of 65,535 entries, named 16 or 153 times, at level 2 or 8
-    for (kind, levels) in [(b"li", 2), (b"li", 8), (b"lh", 2), (b"lh", 8)] {
-        for times in [16, 153] {
-            let mut b = Build::new(4096);
-            let leaf = b.leaf(kind, 65_535);
-            let mut list = b.list(b"ri", vec![leaf; times].into_iter());
-            for _ in 2..levels {
-                list = b.list(b"ri", [list].into_iter());
-            }
-            add(format!("`{}` at level {levels}, {} entries", word(kind), 65_535 * times), b.case(list), (turns / 8).max(3));
-        }
-    }
-    rows
 }
 
-/// Small images with lists in them, whole and damaged, that name each other.
-fn random_case(r: &mut Random) -> (Case, usize) {
-    let len = r.of(&[0, 7, 8, 9, 40, 120, 300, 600]) + r.below(16);
-    let base = r.of(&[0, 0, 4, 16, 32]).min(len as u32);
-    let mut image: Vec<u8> = (0..len).map(|_| r.of(&[0, 1, 255, r.0 as u8])).collect();
-    let lists = 1 + r.below(12);
-    let places: Vec<usize> = (0..lists).map(|i| base as usize + i * r.of(&[8, 16, 24, 40, 48])).collect();
-    for at in &places {
-        let kind = r.of(&[*b"ri", *b"ri", *b"ri", *b"li", *b"lh", *b"lf", *b"li", *b"lh"]);
-        let mut list = vec![0u8; 4];
-        list.extend(if r.below(40) == 0 { *b"lx" } else { kind });
-        let n = r.of(&[0, 1, 1, 2, 2, 3, 4]);
-        list.extend((if r.below(60) == 0 { r.below(65_536) } else { n } as u16).to_le_bytes());
-        for _ in 0..n {
-            let deeper = if kind == *b"ri" { r.below(30) > 0 } else { false };
-            let e = if deeper {
-                // mostly a list further on, so that many walks end
-                let later: Vec<usize> = places.iter().copied().filter(|p| p > at || r.below(12) == 0).collect();
-                if later.is_empty() { 0 } else { (r.of(&later) - base as usize) as u32 }
-            } else {
-                r.of(&[0, 8, 88, u32::MAX, u32::MAX - 3, u32::MAX - 4, u32::MAX - 15, u32::MAX - 16, u32::MAX - 32, r.0 as u32])
-            };
-            list.extend(e.to_le_bytes());
-            if kind[0] == b'l' && kind[1] != b'i' {
-                list.extend([9; 4]);
-            }
-        }
-        for (i, x) in list.into_iter().enumerate() {
-            if let Some(place) = image.get_mut(at + i) {
-                *place = x;
-            }
-        }
-    }
-    if r.below(4) == 0 && !image.is_empty() {
-        let at = r.below(image.len());
-        image[at] = r.0 as u8;
-    }
-    if r.below(6) == 0 {
-        image.truncate(r.below(len + 1));
-    }
-    let case = Case {
-        base: if r.below(50) == 0 { u32::MAX - r.below(64) as u32 } else { base },
-        count: r.of(&[1, 1, 1, 1, 1, 2, 1_000, 1_048_576, 1_048_577, 0, 1, 1, 1]),
-        list: if r.below(30) == 0 { r.0 as u32 } else { (r.of(&places[..1]) - base as usize) as u32 },
-        budget: r.of(&[200, 200, 200, 200, 8, 7, 3, 1, 0, 65_536, 65_537]),
-        image,
-    };
-    let places = r.of(&[0, 1, 2, 4, 8, 16, 32, 64, 500, 500, 500]);
-    (case, places)
+/// The turns of a row with over 1,000,000 entries.
+fn many(turns: usize) -> usize {
+    (turns / 8).max(3).div_ceil(10) * 10
 }
 
 fn compare_random(rounds: usize) {
@@ -262,6 +124,12 @@ fn compare_random(rounds: usize) {
         let (number, told) = case.compare(places, 0xdead_beef);
         seen[number as usize] += 1;
         dropped += (number == 0 && told[4] > 0) as usize;
+    }
+    let mut wide = [0usize; 3];
+    for _ in 0..rounds / 10 {
+        let (case, places) = wide_case(&mut r);
+        let (number, told) = case.compare(places, 0xdead_beef);
+        wide[match number { 0 => (told[4] > 0) as usize, _ => 2 }] += 1;
     }
     let mut sums = [0usize; 4];
     for i in 0..rounds {
@@ -277,25 +145,30 @@ fn compare_random(rounds: usize) {
     }
     let told: Vec<String> = [2, 4, 7, 8, 9, 13, 14, 15].iter().map(|n| format!("{n}: {}", seen[*n])).collect();
     println!("Answers and buffers alike on {rounds} small images: {} successes, {dropped} of them with entries dropped; refusals {}.", seen[0], told.join(", "));
+    println!("Alike on {} with long lists: {} with no entry dropped, {} with some, {} refused.", rounds / 10, wide[0], wide[1], wide[2]);
     println!("Checksums alike on {rounds} slices: refused {}, mended to 1 {}, to FFFFFFFE {}, others {}.", sums[0], sums[1], sums[2], sums[3]);
-    assert!([0, 2, 4, 7, 8, 9, 13, 14, 15].iter().all(|n| seen[*n] > 20) && dropped > 20 && sums.iter().all(|n| *n > 20), "not all is reached");
+    assert!([0, 2, 4, 7, 8, 9, 13, 14, 15].iter().all(|n| seen[*n] > 20) && dropped > 20 && sums.iter().chain(&wide).all(|n| *n > 20), "not all is reached");
 }
 
-fn time_row(row: &mut Row, walks: &[Walk], turns: usize, buffer: &mut [u32]) {
+fn time_row(row: &mut Timed, walks: &[Walk], turns: usize, buffer: &mut [u32]) {
     // a small row is called many times in one timing, each call with places of its own
     let calls = (4096 / row.places.max(1)).clamp(1, 256);
     row.times.resize(walks.len(), Vec::new());
     let mut told = [0; 5];
-    for turn in 0..turns {
+    // the first turn finds the image in no cache and is not counted
+    for turn in 0..=turns {
         for k in 0..walks.len() {
             let who = (k + turn) % walks.len();
             let out = black_box(&mut buffer[..calls * row.places]);
             out.fill(0);
             let t = Instant::now();
             for part in out.chunks_exact_mut(row.places) {
-                black_box(row.case.call(walks[who], part, &mut told));
+                black_box(row.row.case.call(walks[who], part, &mut told));
             }
-            row.times[who].push(t.elapsed().as_secs_f64() * 1e9 / calls as f64);
+            let time = t.elapsed().as_secs_f64() * 1e9 / calls as f64;
+            if turn > 0 {
+                row.times[who].push(time);
+            }
         }
     }
 }
@@ -342,17 +215,73 @@ fn line(name: &str, times: &mut [Vec<f64>]) {
     }
 }
 
+fn sum_image() -> Vec<u8> {
+    (0..4096u32).map(|i| (i * 167 >> 3) as u8).collect()
+}
+
+unsafe extern "C" fn no_walk(_: *const u8, _: usize, _: u32, _: u32, _: u32, _: u32, _: *mut u32, _: usize, _: *mut [u64; 5]) -> u32 {
+    0
+}
+
+unsafe extern "C" fn no_sum(_: *const u8, _: usize) -> u32 {
+    0
+}
+
+/// Instructions a call, under the emulator: its plugin writes how many have been executed to a file whenever the process asks for its
+/// own number. What a call of a function that does nothing takes is taken off.
+fn count(rows: &[Timed], file: &str) {
+    const CALLS: u64 = 4;
+    let now = || {
+        let _ = std::process::id();
+        u64::from_le_bytes(std::fs::read(file).unwrap().try_into().unwrap())
+    };
+    let each = |call: &mut dyn FnMut()| {
+        call();
+        let before = now();
+        for _ in 0..CALLS {
+            call();
+        }
+        now() - before
+    };
+    let show = |name: &str, all: &[u64]| {
+        let n: Vec<u64> = all[1..].iter().map(|x| (x - all[0]) / CALLS).collect();
+        let direct = n.get(2).map_or(String::from(" |"), |d| format!("{d} | {:.2}", n[0] as f64 / *d as f64));
+        println!("| {name} | {} | {} | {:.2} | {direct} |", n[0], n[1], n[0] as f64 / n[1] as f64);
+    };
+    println!("x86-64 instructions a call.\n\n| row | Rattle | Rust | ratio | direct Rust | ratio |\n|---|---|---|---|---|---|");
+    let image = sum_image();
+    let sums = [no_sum as Sum, speed_checksum, plain_checksum].map(|sum| {
+        each(&mut || {
+            let (sum, b) = (black_box(sum), black_box(&image[..]));
+            black_box(unsafe { sum(b.as_ptr(), b.len()) });
+        })
+    });
+    show("checksum of 508 bytes", &sums);
+    for row in rows.iter().filter(|r| r.places < 100_000) {
+        let (mut out, mut told) = (vec![0; row.places], [0; 5]);
+        let all = [no_walk as Walk, speed_walk, plain_walk, direct].map(|walk| {
+            each(&mut || {
+                black_box(row.row.case.call(black_box(walk), &mut out, &mut told));
+            })
+        });
+        show(&row.row.name, &all);
+    }
+}
+
 fn main() {
     let words: Vec<String> = std::env::args().skip(1).collect();
-    let variants = words.iter().any(|w| w == "variants");
+    let said = |word: &str| words.iter().any(|w| w == word);
     let turns: usize = words.iter().find_map(|w| w.parse().ok()).unwrap_or(400);
+    let files: Vec<String> = words.iter().filter(|w| w.ends_with(".hive")).cloned().collect();
     compare_random(20_000);
-    let mut rows = rows(turns);
-    for row in &rows {
-        let (number, told) = row.case.compare(row.places + 3, 5);
-        assert_eq!((number, told[3] as usize), (0, row.places), "{}", row.name);
-    }
+    let hives = cases::hives(&files);
+    let rows = if said("hives") { hives } else { cases::rows().into_iter().chain(hives).collect() };
+    let mut rows: Vec<Timed> = rows.into_iter().map(|row| Timed::new(row, turns)).collect();
     println!("Answers and buffers alike in every row.\n");
+    if let Some(file) = words.iter().find_map(|w| w.strip_prefix("counts=")) {
+        return count(&rows, file);
+    }
+    let variants = said("variants");
     let walks: Vec<Walk> = if variants {
         [plain_walk as Walk].into_iter().chain(VARIANTS.iter().map(|v| v.1)).collect()
     } else {
@@ -361,7 +290,7 @@ fn main() {
     let mut buffer = vec![0u32; rows.iter().map(|r| r.places).max().unwrap().max(4096)];
     let which: Vec<Sum> = SUMS.iter().take(if variants { SUMS.len() } else { 2 }).map(|s| s.1).collect();
     let mut sums = vec![Vec::new(); which.len()];
-    let image: Vec<u8> = (0..4096u32).map(|i| (i * 167 >> 3) as u8).collect();
+    let image = sum_image();
     // the rows take turns in ten rounds, so that a moment in which the machine is busy falls on all of them alike
     for _ in 0..10 {
         time_sum(&mut sums, &which, turns.div_ceil(10), &image);
@@ -378,20 +307,21 @@ fn main() {
         println!("| row | {} |\n|---|{}", names.join(" | "), "---|".repeat(names.len()));
         for row in rows.iter_mut() {
             let least: Vec<String> = row.times.iter_mut().map(|t| show(two(t).0)).collect();
-            println!("| {} | {} |", row.name, least.join(" | "));
+            println!("| {} | {} |", row.row.name, least.join(" | "));
         }
         return;
     }
-    println!("Least / median of {turns} turns, of {} in the rows with over 1,000,000 entries.\n", (turns / 8).max(3).div_ceil(10) * 10);
+    println!("Least / median of {turns} turns, of {} in the rows with over 1,000,000 entries.\n", many(turns));
     println!("| row | Rattle | Rust | ratio of least | of medians | direct Rust | ratio of least |\n|---|---|---|---|---|---|---|");
     line("checksum of 508 bytes", &mut sums);
     for row in rows.iter_mut() {
-        let name = row.name.clone();
-        line(&name, &mut row.times);
+        line(&row.row.name, &mut row.times);
     }
-    println!("\nGrowth, in ns an entry at the least:\n\n| row | Rattle | Rust | direct Rust |\n|---|---|---|---|");
-    for row in rows.iter_mut().filter(|r| r.places > 1_000_000) {
+    if rows.iter().any(|r| r.row.growth) {
+        println!("\nGrowth, in ns an entry at the least:\n\n| row | Rattle | Rust | direct Rust |\n|---|---|---|---|");
+    }
+    for row in rows.iter_mut().filter(|r| r.row.growth) {
         let each: Vec<String> = row.times.iter_mut().map(|t| format!("{:.2}", two(t).0 / row.places as f64)).collect();
-        println!("| {} | {} |", row.name, each.join(" | "));
+        println!("| {} | {} |", row.row.name, each.join(" | "));
     }
 }

@@ -41,6 +41,7 @@ exported!(direct, variants::direct);
 exported!(by_leaf, variants::by_leaf);
 exported!(sixteen, variants::sixteen);
 exported!(recursive, variants::recursive);
+exported!(two_walks, variants::two_walks);
 
 /// A checksum in Rust behind the same signature as the one in Rattle: 0 for a refusal.
 macro_rules! exported_sum {
@@ -58,7 +59,8 @@ exported_sum!(lines_of_16, sums::lines_of_16);
 exported_sum!(lines_of_64, sums::lines_of_64);
 exported_sum!(sheet, sums::sheet);
 
-const VARIANTS: [(&str, Walk); 4] = [("direct", direct), ("by leaf", by_leaf), ("sixteen", sixteen), ("recursive", recursive)];
+const VARIANTS: [(&str, Walk); 5] =
+    [("direct", direct), ("by leaf", by_leaf), ("sixteen", sixteen), ("recursive", recursive), ("two walks", two_walks)];
 const SUMS: [(&str, Sum); 7] = [
     ("Rattle", speed_checksum),
     ("plain", plain_checksum),

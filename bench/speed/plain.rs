@@ -62,58 +62,137 @@ pub fn read_list(image: &[u8], position: usize) -> Result<List<'_>, u32> {
     .ok_or(CUT_SHORT)
 }
 
-/// The offset that an entry of 4 or of 8 bytes begins with.
-#[inline]
-pub fn offset<const N: usize>(entry: &[u8; N]) -> u32 {
-    u32::from_le_bytes([entry[0], entry[1], entry[2], entry[3]])
+/// An entry of 4 or of 8 bytes, which begins with an offset.
+pub trait Entry: Sized {
+    fn offset(&self) -> u32;
+    /// All offsets joined by OR: no offset is greater.
+    fn bound(entries: &[Self]) -> u32;
+}
+
+impl Entry for [u8; 4] {
+    #[inline]
+    fn offset(&self) -> u32 {
+        u32::from_le_bytes(*self)
+    }
+    #[inline]
+    fn bound(entries: &[Self]) -> u32 {
+        entries.iter().fold(0, |x, e| x | u32::from_le_bytes(*e))
+    }
+}
+
+impl Entry for [u8; 8] {
+    #[inline]
+    fn offset(&self) -> u32 {
+        u64::from_le_bytes(*self) as u32
+    }
+    #[inline]
+    fn bound(entries: &[Self]) -> u32 {
+        entries.iter().fold(0, |x, e| x | u64::from_le_bytes(*e)) as u32
+    }
 }
 
 /// What a walk does with the entries of a leaf list: how many it keeps.
 pub trait Leaf {
-    fn leaf<const N: usize>(&mut self, base: u32, entries: &[[u8; N]]) -> u32;
+    fn leaf<E: Entry>(&mut self, base: u32, entries: &[E]) -> u32;
 }
 
-/// Counts the sums that fit 32 bits.
+/// Counts the sums that fit 32 bits: mostly all of them, and then no sum has to be looked at.
 pub struct Measure;
 
+const PIECE: usize = 1024;
+
 impl Leaf for Measure {
-    fn leaf<const N: usize>(&mut self, base: u32, entries: &[[u8; N]]) -> u32 {
-        let greatest = u32::MAX - base;
-        entries.iter().map(|entry| (offset(entry) <= greatest) as u32).sum()
+    #[inline]
+    fn leaf<E: Entry>(&mut self, base: u32, entries: &[E]) -> u32 {
+        if entries.len() <= PIECE && all_fit(base, entries) {
+            return entries.len() as u32;
+        }
+        measure_pieces(base, entries)
     }
 }
 
-/// Writes the sums that fit 32 bits. `whole`: all of them do, as the measuring walk found.
+#[inline]
+pub fn all_fit<E: Entry>(base: u32, entries: &[E]) -> bool {
+    E::bound(entries) <= u32::MAX - base
+}
+
+/// Piece by piece, until one has a sum that is dropped.
+#[inline(never)]
+fn measure_pieces<E: Entry>(base: u32, entries: &[E]) -> u32 {
+    let mut at = 0;
+    for piece in entries.chunks(PIECE) {
+        if !all_fit(base, piece) {
+            return at as u32 + count(base, &entries[at..]);
+        }
+        at += piece.len();
+    }
+    at as u32
+}
+
+pub fn count<E: Entry>(base: u32, entries: &[E]) -> u32 {
+    let greatest = u32::MAX - base;
+    entries.iter().map(|entry| (entry.offset() <= greatest) as u32).sum()
+}
+
+/// Writes the sums that fit 32 bits to places that are as many as these sums in all. `whole`: all of them do, as the measuring found.
 pub struct Fill<'a> {
-    pub out: &'a mut [u32],
+    pub places: &'a mut [u32],
     pub at: usize,
     pub whole: bool,
 }
 
 impl Leaf for Fill<'_> {
-    fn leaf<const N: usize>(&mut self, base: u32, entries: &[[u8; N]]) -> u32 {
-        let out = &mut self.out[self.at..];
-        let mut kept = 0;
+    #[inline]
+    fn leaf<E: Entry>(&mut self, base: u32, entries: &[E]) -> u32 {
+        let before = self.at;
         if self.whole {
-            for (place, entry) in out[..entries.len()].iter_mut().zip(entries) {
-                *place = offset(entry).wrapping_add(base);
-            }
-            kept = entries.len();
+            copy(base, entries, &mut self.places[before..][..entries.len()]);
+            self.at += entries.len();
         } else {
-            for entry in entries {
-                if let Some(sum) = offset(entry).checked_add(base) {
-                    out[kept] = sum;
-                    kept += 1;
-                }
-            }
+            self.at = fill_some(base, entries, self.places, before);
         }
-        self.at += kept;
-        kept as u32
+        (self.at - before) as u32
     }
 }
 
+#[inline]
+pub fn copy<E: Entry>(base: u32, entries: &[E], places: &mut [u32]) {
+    for (place, entry) in places.iter_mut().zip(entries) {
+        *place = entry.offset().wrapping_add(base);
+    }
+}
+
+/// Sixteen at a time, as long as there are sixteen places: what is written too much is overwritten by a later sum.
+#[inline(never)]
+fn fill_some<E: Entry>(base: u32, entries: &[E], places: &mut [u32], mut at: usize) -> usize {
+    let (blocks, rest) = entries.as_chunks::<16>();
+    let mut blocks = blocks.iter();
+    while let Some(sixteen) = places[at..].first_chunk_mut::<16>() {
+        let Some(block) = blocks.next() else { break };
+        if all_fit(base, block) {
+            copy(base, block, sixteen);
+            at += 16;
+        } else {
+            let mut kept = 0;
+            for entry in block {
+                let (sum, over) = entry.offset().overflowing_add(base);
+                sixteen[kept % 16] = sum;
+                kept += !over as usize;
+            }
+            at += kept;
+        }
+    }
+    for entry in blocks.as_slice().as_flattened().iter().chain(rest) {
+        if let Some(sum) = entry.offset().checked_add(base) {
+            places[at] = sum;
+            at += 1;
+        }
+    }
+    at
+}
+
 /// One walk. What is left of each `ri` list that is open stands on a stack.
-fn walk<L: Leaf>(image: &[u8], base: u32, budget: u32, list: u32, mut leaf: L) -> Result<Counts, Refusal> {
+pub fn walk<L: Leaf>(image: &[u8], base: u32, budget: u32, list: u32, mut leaf: L) -> Result<Counts, Refusal> {
     let mut counts = NONE;
     let top = [list.to_le_bytes()];
     let mut rest: &[[u8; 4]] = &top;
@@ -180,8 +259,27 @@ pub fn sub_keys(image: &[u8], base: u32, count: u32, list: u32, budget: u32, out
     if !judge(count, budget)? {
         return Ok(NONE);
     }
+    if budget > 0 {
+        match read_list(image, list as usize + base as usize) {
+            Ok(List::Narrow(entries)) => return one_leaf(base, entries, out),
+            Ok(List::Wide(entries)) => return one_leaf(base, entries, out),
+            _ => {}
+        }
+    }
     let counts = walk(image, base, budget, list, Measure)?;
     room(&counts, out.len())?;
-    let whole = counts.kept == counts.entries;
-    walk(image, base, budget, list, Fill { out, at: 0, whole })
+    walk(image, base, budget, list, filling(&counts, out))
+}
+
+/// A key with one list: it is read once.
+#[inline]
+fn one_leaf<E: Entry>(base: u32, entries: &[E], out: &mut [u32]) -> Result<Counts, Refusal> {
+    let counts = Counts { kept: Measure.leaf(base, entries), lists: 1, entries: entries.len() as u32 };
+    room(&counts, out.len())?;
+    filling(&counts, out).leaf(base, entries);
+    Ok(counts)
+}
+
+pub fn filling<'a>(counts: &Counts, out: &'a mut [u32]) -> Fill<'a> {
+    Fill { places: &mut out[..counts.kept as usize], at: 0, whole: counts.kept == counts.entries }
 }

@@ -1,5 +1,5 @@
 //! Other natural ways to write the walk in plain Rust, to see that `plain.rs` is not a slow one. `measure variants` times them.
-use crate::plain::{judge, offset, read_list, room, Counts, Fill, Leaf, List, Measure, Refusal, LEVELS, NONE, OUT_OF_STEPS, TOO_DEEP};
+use crate::plain::{copy, count, filling, judge, read_list, room, walk, Counts, Entry, Leaf, List, Measure, Refusal, LEVELS, NONE, OUT_OF_STEPS, TOO_DEEP};
 
 /// A walk that calls itself once a level.
 struct Walk<'a, L: Leaf> {
@@ -48,8 +48,17 @@ impl<L: Leaf> Walk<'_, L> {
 struct Count;
 
 impl Leaf for Count {
-    fn leaf<const N: usize>(&mut self, base: u32, entries: &[[u8; N]]) -> u32 {
-        entries.iter().filter(|e| offset(e).checked_add(base).is_some()).count() as u32
+    fn leaf<E: Entry>(&mut self, base: u32, entries: &[E]) -> u32 {
+        entries.iter().filter(|e| e.offset().checked_add(base).is_some()).count() as u32
+    }
+}
+
+/// Counts each sum that fits.
+struct Every;
+
+impl Leaf for Every {
+    fn leaf<E: Entry>(&mut self, base: u32, entries: &[E]) -> u32 {
+        count(base, entries)
     }
 }
 
@@ -57,10 +66,10 @@ impl Leaf for Count {
 struct Index<'a>(&'a mut [u32], usize);
 
 impl Leaf for Index<'_> {
-    fn leaf<const N: usize>(&mut self, base: u32, entries: &[[u8; N]]) -> u32 {
+    fn leaf<E: Entry>(&mut self, base: u32, entries: &[E]) -> u32 {
         let mut at = self.1;
         for entry in entries {
-            if let Some(sum) = offset(entry).checked_add(base) {
+            if let Some(sum) = entry.offset().checked_add(base) {
                 self.0[at] = sum;
                 at += 1;
             }
@@ -71,19 +80,31 @@ impl Leaf for Index<'_> {
     }
 }
 
+/// Copies in wide steps where the measuring walk dropped nothing, and stores by an index else.
+struct Whole<'a>(Index<'a>, bool);
+
+impl Leaf for Whole<'_> {
+    fn leaf<E: Entry>(&mut self, base: u32, entries: &[E]) -> u32 {
+        if !self.1 {
+            return self.0.leaf(base, entries);
+        }
+        copy(base, entries, &mut self.0.0[self.0.1..][..entries.len()]);
+        self.0.1 += entries.len();
+        entries.len() as u32
+    }
+}
+
 /// Counts the leaf's sums that fit, and copies in wide steps where all of them do.
 struct ByLeaf<'a>(&'a mut [u32], usize);
 
 impl Leaf for ByLeaf<'_> {
-    fn leaf<const N: usize>(&mut self, base: u32, entries: &[[u8; N]]) -> u32 {
-        let kept = Measure.leaf(base, entries);
+    fn leaf<E: Entry>(&mut self, base: u32, entries: &[E]) -> u32 {
+        let kept = count(base, entries);
         let places = &mut self.0[self.1..][..kept as usize];
         if places.len() == entries.len() {
-            for (place, entry) in places.iter_mut().zip(entries) {
-                *place = offset(entry).wrapping_add(base);
-            }
+            copy(base, entries, places);
         } else {
-            for (place, sum) in places.iter_mut().zip(entries.iter().filter_map(|e| offset(e).checked_add(base))) {
+            for (place, sum) in places.iter_mut().zip(entries.iter().filter_map(|e| e.offset().checked_add(base))) {
                 *place = sum;
             }
         }
@@ -96,17 +117,15 @@ impl Leaf for ByLeaf<'_> {
 struct Sixteen<'a>(&'a mut [u32], usize);
 
 impl Leaf for Sixteen<'_> {
-    fn leaf<const N: usize>(&mut self, base: u32, entries: &[[u8; N]]) -> u32 {
+    fn leaf<E: Entry>(&mut self, base: u32, entries: &[E]) -> u32 {
         let before = self.1;
         for some in entries.chunks(16) {
-            if some.len() == 16 && Measure.leaf(base, some) == 16 {
-                for (place, entry) in self.0[self.1..][..16].iter_mut().zip(some) {
-                    *place = offset(entry).wrapping_add(base);
-                }
+            if some.len() == 16 && count(base, some) == 16 {
+                copy(base, some, &mut self.0[self.1..][..16]);
                 self.1 += 16;
             } else {
                 for entry in some {
-                    if let Some(sum) = offset(entry).checked_add(base) {
+                    if let Some(sum) = entry.offset().checked_add(base) {
                         self.0[self.1] = sum;
                         self.1 += 1;
                     }
@@ -125,20 +144,20 @@ fn once<L: Leaf>(image: &[u8], base: u32, budget: u32, list: u32, leaf: L) -> Re
 
 /// Two walks: one that counts with the first, and one that fills with the second.
 macro_rules! walks {
-    ($name:ident, $measure:expr, |$out:ident, $whole:ident| $fill:expr) => {
+    ($name:ident, $walk:path, $measure:expr, |$out:ident, $counts:ident| $fill:expr) => {
         pub fn $name(image: &[u8], base: u32, count: u32, list: u32, budget: u32, $out: &mut [u32]) -> Result<Counts, Refusal> {
             if !judge(count, budget)? {
                 return Ok(NONE);
             }
-            let counts = once(image, base, budget, list, $measure)?;
-            room(&counts, $out.len())?;
-            let $whole = counts.kept == counts.entries;
-            once(image, base, budget, list, $fill)
+            let $counts = $walk(image, base, budget, list, $measure)?;
+            room(&$counts, $out.len())?;
+            $walk(image, base, budget, list, $fill)
         }
     };
 }
 
-walks!(direct, Count, |out, _whole| Index(out, 0));
-walks!(by_leaf, Measure, |out, _whole| ByLeaf(out, 0));
-walks!(sixteen, Measure, |out, _whole| Sixteen(out, 0));
-walks!(recursive, Measure, |out, whole| Fill { out, at: 0, whole });
+walks!(direct, once, Count, |out, _counts| Index(out, 0));
+walks!(by_leaf, once, Every, |out, _counts| ByLeaf(out, 0));
+walks!(sixteen, once, Every, |out, _counts| Sixteen(out, 0));
+walks!(recursive, once, Measure, |out, counts| filling(&counts, out));
+walks!(two_walks, walk, Every, |out, counts| Whole(Index(out, 0), counts.kept == counts.entries));

@@ -65,8 +65,6 @@ pub fn read_list(image: &[u8], position: usize) -> Result<List<'_>, u32> {
 /// An entry of 4 or of 8 bytes, which begins with an offset.
 pub trait Entry: Sized {
     fn offset(&self) -> u32;
-    /// All offsets joined by OR: no offset is greater.
-    fn bound(entries: &[Self]) -> u32;
 }
 
 impl Entry for [u8; 4] {
@@ -74,20 +72,12 @@ impl Entry for [u8; 4] {
     fn offset(&self) -> u32 {
         u32::from_le_bytes(*self)
     }
-    #[inline]
-    fn bound(entries: &[Self]) -> u32 {
-        entries.iter().fold(0, |x, e| x | u32::from_le_bytes(*e))
-    }
 }
 
 impl Entry for [u8; 8] {
     #[inline]
     fn offset(&self) -> u32 {
         u64::from_le_bytes(*self) as u32
-    }
-    #[inline]
-    fn bound(entries: &[Self]) -> u32 {
-        entries.iter().fold(0, |x, e| x | u64::from_le_bytes(*e)) as u32
     }
 }
 
@@ -99,21 +89,31 @@ pub trait Leaf {
 /// Counts the sums that fit 32 bits: mostly all of them, and then no sum has to be looked at.
 pub struct Measure;
 
+const FEW: usize = 32;
 const PIECE: usize = 1024;
 
 impl Leaf for Measure {
     #[inline]
     fn leaf<E: Entry>(&mut self, base: u32, entries: &[E]) -> u32 {
-        if entries.len() <= PIECE && all_fit(base, entries) {
-            return entries.len() as u32;
+        if entries.len() <= FEW {
+            return count(base, entries);
         }
         measure_pieces(base, entries)
     }
 }
 
+/// Whether all sums fit. No offset is greater than all of them joined by OR.
 #[inline]
-pub fn all_fit<E: Entry>(base: u32, entries: &[E]) -> bool {
-    E::bound(entries) <= u32::MAX - base
+fn all_fit<E: Entry>(base: u32, entries: &[E]) -> bool {
+    let (blocks, rest) = entries.as_chunks::<16>();
+    let mut all = [0; 16];
+    for block in blocks {
+        for (x, entry) in all.iter_mut().zip(block) {
+            *x |= entry.offset();
+        }
+    }
+    let bound = rest.iter().map(E::offset).chain(all).fold(0, |x, y| x | y);
+    bound <= u32::MAX - base
 }
 
 /// Piece by piece, until one has a sum that is dropped.
@@ -129,6 +129,7 @@ fn measure_pieces<E: Entry>(base: u32, entries: &[E]) -> u32 {
     at as u32
 }
 
+#[inline]
 pub fn count<E: Entry>(base: u32, entries: &[E]) -> u32 {
     let greatest = u32::MAX - base;
     entries.iter().map(|entry| (entry.offset() <= greatest) as u32).sum()
@@ -165,10 +166,8 @@ pub fn copy<E: Entry>(base: u32, entries: &[E], places: &mut [u32]) {
 /// Sixteen at a time, as long as there are sixteen places: what is written too much is overwritten by a later sum.
 #[inline(never)]
 fn fill_some<E: Entry>(base: u32, entries: &[E], places: &mut [u32], mut at: usize) -> usize {
-    let (blocks, rest) = entries.as_chunks::<16>();
-    let mut blocks = blocks.iter();
-    while let Some(sixteen) = places[at..].first_chunk_mut::<16>() {
-        let Some(block) = blocks.next() else { break };
+    let mut from = 0;
+    while let (Some(block), Some(sixteen)) = (entries[from..].first_chunk::<16>(), places[at..].first_chunk_mut::<16>()) {
         if all_fit(base, block) {
             copy(base, block, sixteen);
             at += 16;
@@ -181,8 +180,9 @@ fn fill_some<E: Entry>(base: u32, entries: &[E], places: &mut [u32], mut at: usi
             }
             at += kept;
         }
+        from += 16;
     }
-    for entry in blocks.as_slice().as_flattened().iter().chain(rest) {
+    for entry in &entries[from..] {
         if let Some(sum) = entry.offset().checked_add(base) {
             places[at] = sum;
             at += 1;

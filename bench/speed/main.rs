@@ -272,18 +272,15 @@ fn count(rows: &[Timed], file: &str) {
 
 fn main() {
     let words: Vec<String> = std::env::args().skip(1).collect();
-    let said = |word: &str| words.iter().any(|w| w == word);
     let turns: usize = words.iter().find_map(|w| w.parse().ok()).unwrap_or(400);
     let files: Vec<String> = words.iter().filter(|w| w.ends_with(".hive")).cloned().collect();
     compare_random(20_000);
-    let hives = cases::hives(&files);
-    let rows = if said("hives") { hives } else { cases::rows().into_iter().chain(hives).collect() };
-    let mut rows: Vec<Timed> = rows.into_iter().map(|row| Timed::new(row, turns)).collect();
+    let mut rows: Vec<Timed> = cases::rows().into_iter().chain(cases::hives(&files)).map(|row| Timed::new(row, turns)).collect();
     println!("Answers and buffers alike in every row.\n");
     if let Some(file) = words.iter().find_map(|w| w.strip_prefix("counts=")) {
         return count(&rows, file);
     }
-    let variants = said("variants");
+    let variants = words.iter().any(|w| w == "variants");
     let walks: Vec<Walk> = if variants {
         [plain_walk as Walk].into_iter().chain(VARIANTS.iter().map(|v| v.1)).collect()
     } else {
@@ -319,9 +316,7 @@ fn main() {
     for row in rows.iter_mut() {
         line(&row.row.name, &mut row.times);
     }
-    if rows.iter().any(|r| r.row.growth) {
-        println!("\nGrowth, in ns an entry at the least:\n\n| row | Rattle | Rust | direct Rust |\n|---|---|---|---|");
-    }
+    println!("\nGrowth, in ns an entry at the least:\n\n| row | Rattle | Rust | direct Rust |\n|---|---|---|---|");
     for row in rows.iter_mut().filter(|r| r.row.growth) {
         let each: Vec<String> = row.times.iter_mut().map(|t| format!("{:.2}", two(t).0 / row.places as f64)).collect();
         println!("| {} | {} |", row.row.name, each.join(" | "));

@@ -4,6 +4,7 @@
 //!   judge unguarded < CASES             the walk with no look ahead: an `ri` that leads back to itself ends the process
 //!   judge callers < CASES               what the Rust's own callers make of a value list, a walk or value data: results, and log lines
 //!   judge compare RUST PAPER RATTLE     holds the Rust's lines and paper.py's to the Rattle program's; writes counts
+//!   judge time HIVE TURNS               times `parse_sub_key_list` on the root of a hive (bench/speed)
 //!   judge table < COUNTS                adds up such counts and prints the table; exit 1 where a compared case differs
 #![allow(dead_code, unused_imports, unexpected_cfgs, macro_expanded_macro_exports_accessed_by_absolute_paths)]
 
@@ -29,6 +30,7 @@ pub mod cell_key_node {
 mod answers;
 mod lines;
 mod stream;
+mod timed;
 
 use std::io::{BufWriter, Write};
 
@@ -51,9 +53,10 @@ fn main() {
         ["unguarded"] => run(answers::Form::Unguarded),
         ["callers"] => run(answers::Form::Callers),
         ["compare", a, b, c] => lines::compare(a, b, c),
+        ["time", hive, turns] => timed::list(hive, turns.parse().unwrap()),
         ["table"] => std::process::exit(!lines::table() as i32),
         _ => {
-            eprintln!("usage: judge answers | undone | unguarded | callers | compare RUST PAPER RATTLE | table");
+            eprintln!("usage: judge answers | undone | unguarded | callers | compare RUST PAPER RATTLE | time HIVE TURNS | table");
             std::process::exit(2)
         }
     }

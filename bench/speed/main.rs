@@ -245,7 +245,9 @@ fn count(rows: &[Timed], file: &str) {
         }
         now() - before
     };
+    each(&mut || ()); // what is done once in a process is done
     let show = |name: &str, all: &[u64]| {
+        assert!(all.iter().all(|x| (x - all[0]) % CALLS == 0), "{name}: not every call takes the same");
         let n: Vec<u64> = all[1..].iter().map(|x| (x - all[0]) / CALLS).collect();
         let direct = n.get(2).map_or(String::from(" |"), |d| format!("{d} | {:.2}", n[0] as f64 / *d as f64));
         println!("| {name} | {} | {} | {:.2} | {direct} |", n[0], n[1], n[0] as f64 / n[1] as f64);

@@ -1,5 +1,8 @@
 -- What several proofs use, demand 3 (`Demand`), and document 01's examples (`Examples`).
 pub mod Walks
+pub mod Open
+pub mod Measures
+pub mod Fills
 pub mod Papers
 pub mod Answers
 pub mod Judged
@@ -8,5 +11,4 @@ pub mod Demand
 pub mod Dropped
 pub mod Examples
 pub mod Entries
-pub mod Fills
 pub mod Most

@@ -7,10 +7,10 @@ use Rattle.sub_key_walk.proofs.dropped_of.Statement.{statement}
 use Rattle.sub_key_walk.proofs.dropped_of.Tie as tie
 
 abbrev Inv-loop : tie.InvT-loop
-Inv-loop image base size pos count dropped₀ at₀ i₀ dropped at i = Counting image base size count pos at dropped i
+Inv-loop image base size pos count n dropped₀ at₀ i₀ dropped at i = Counting image base size count pos at dropped i
 
 abbrev μ-loop : tie.MeasureT-loop
-μ-loop image base size pos count dropped₀ at₀ i₀ dropped at i = count - i
+μ-loop image base size pos count n dropped₀ at₀ i₀ dropped at i = count - i
 
 loop-holds : tie.Need-loop-holds Inv-loop μ-loop
 loop-holds c =

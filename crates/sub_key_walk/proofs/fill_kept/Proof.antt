@@ -5,10 +5,10 @@ use Rattle.sub_key_walk.proofs.fill_kept.Statement.{statement}
 use Rattle.sub_key_walk.proofs.fill_kept.Tie as tie
 
 abbrev Inv-loop : tie.InvT-loop
-Inv-loop image base size pos count out₀ place at₀ to₀ i₀ out at to i = Filling image base size count pos out₀ place out at to i
+Inv-loop image base size pos count out₀ place n at₀ to₀ i₀ out at to i = Filling image base size count pos out₀ place out at to i
 
 abbrev μ-loop : tie.MeasureT-loop
-μ-loop image base size pos count out₀ place at₀ to₀ i₀ out at to i = count - i
+μ-loop image base size pos count out₀ place n at₀ to₀ i₀ out at to i = count - i
 
 loop-holds : tie.Need-loop-holds Inv-loop μ-loop
 loop-holds c =

@@ -7,11 +7,11 @@ use Rattle.sub_key_walk.proofs.fill_whole.Statement.{statement}
 use Rattle.sub_key_walk.proofs.fill_whole.Tie as tie
 
 abbrev Inv-loop : tie.InvT-loop
-Inv-loop image base size pos count out₀ place at₀ to₀ i₀ out at to i =
+Inv-loop image base size pos count out₀ place n at₀ to₀ i₀ out at to i =
     Filling image base size count pos out₀ place out at to i × (leafDropped image base size (count - i) at ≡ 0)
 
 abbrev μ-loop : tie.MeasureT-loop
-μ-loop image base size pos count out₀ place at₀ to₀ i₀ out at to i = count - i
+μ-loop image base size pos count out₀ place n at₀ to₀ i₀ out at to i = count - i
 
 loop-holds : tie.Need-loop-holds Inv-loop μ-loop
 loop-holds c =

@@ -35,7 +35,7 @@ measure-requires c κs = search needs
 returns-4 : tie.Need-returns-4
 returns-4 c =
     let a = c .before .before .before .before .before .args in
-    c .measure .ensures .answer ∙ sym (measured-walk (a .image .now) (a .base) (a .count) (a .list) (a .budget) (record { small = c .before .before .before .if1 .left; few = c .before .before .if2 .left; some = c .before .if3 .left }))
+    c .measure .ensures ∙ sym (measured-walk (a .image .now) (a .base) (a .count) (a .list) (a .budget) (record { small = c .before .before .before .if1 .left; few = c .before .before .if2 .left; some = c .before .if3 .left }))
 
 pub sub-key-counts-spec : {M : Type 1} → statement M
 sub-key-counts-spec =

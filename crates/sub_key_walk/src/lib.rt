@@ -325,8 +325,8 @@ fn measure_named(image: &[u8], base: u32, budget: u32, first: usize, count: u16)
     requires { ⌜ Names (now image) count first ⌝ ∗ ⌜ 1 ≤ budget ⌝ ∗ ⌜ budget ≤ BUDGET-LIMIT ⌝ }
     ensures { λ r. ⌜ walkPaper r ≡ judge budget topRead (namedBy (now (image .entry)) base count first) ⌝ }
 {
-    let mut froms = [0usize; 8];
-    let mut rests = [0u16; 8];
+    let mut froms = [0usize; LEVELS];
+    let mut rests = [0u16; LEVELS];
     let mut level: usize = 1;
     let mut from = first;
     let mut left = count;
@@ -396,8 +396,8 @@ fn fill_named(
     requires { ⌜ Names (now image) count first ⌝ ∗ ⌜ Roomy (namedBy (now image) base count first) whole (now out) 0 ⌝ }
     ensures { λ r. ⌜ Filled (keptOf (namedBy (now (image .entry)) base count first)) (now (out .entry)) 0 r (now (out .exit)) ⌝ }
 {
-    let mut froms = [0usize; 8];
-    let mut rests = [0u16; 8];
+    let mut froms = [0usize; LEVELS];
+    let mut rests = [0u16; LEVELS];
     let mut level: usize = 1;
     let mut from = first;
     let mut left = count;
@@ -408,8 +408,8 @@ fn fill_named(
             from = froms[level];
             left = rests[level];
         } else {
-            let next = word(image, from);
-            let position = (next as usize) + (base as usize);
+            let named = word(image, from);
+            let position = (named as usize) + (base as usize);
             from = from + 4;
             left = left - 1;
             if level < LEVELS {

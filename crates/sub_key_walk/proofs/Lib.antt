@@ -10,5 +10,7 @@ pub mod Traces
 pub mod Demand
 pub mod Dropped
 pub mod Examples
+pub mod Pairs
+pub mod Pieces
 pub mod Entries
 pub mod Most

@@ -1,6 +1,6 @@
 -- What the private functions promise: the loops over the entries of a leaf list, the walk that measures and the walk that fills. Of use
 -- inside this crate only.
-use Prim.Native.Nat.{ℕ, _+_, _-_, _*_, _≤_}
+use Prim.Native.Nat.{ℕ, _+_, _-_, _*_, _≤_, _<_}
 use mathlib.Core.Path.{_≡_}
 use mathlib.Core.List.{List}
 use mathlib.Core.Bool.{Bool, true, cond}
@@ -30,6 +30,14 @@ Stands s p l = listAt s p ≡ success (leaf (l .signature) (l .«entry_size») (
 -- where it is claimed that none of them is dropped, none is
 abbrev pub Whole : List ℕ → ℕ → ℕ → ℕ → ℕ → Bool → Type 0
 Whole s base size n pos whole = whole ≡ true → leafDropped s base size n pos ≡ 0
+
+-- no entry is dropped with a base with which this bound of their offsets is not
+abbrev pub Bound : List ℕ → ℕ → ℕ → ℕ → ℕ → Type 0
+Bound s size n pos bound = (base : ℕ) → bound + base < 4294967296 → leafDropped s base size n pos ≡ 0
+
+-- an entry that has not 4 bytes has 8
+abbrev pub Sized : ℕ → Type 0
+Sized size = (size ≡ 4 → ⊥) → size ≡ 8
 
 -- the row `ks` is written from a place on, and `r` is the place behind it
 pub record Filled (ks old : List ℕ) (place r : ℕ) (new : List ℕ) : Type 0 where

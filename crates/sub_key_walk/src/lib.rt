@@ -5,7 +5,7 @@ use sub_key_list::LeafList;
 use sub_key_list::SubKeyList;
 use words::Refusal;
 ghost use mathlib.Core.Path.{_≡_};
-ghost use Prim.Native.Nat.{_+_, _≤_};
+ghost use Prim.Native.Nat.{_+_, _%_, _≤_, min};
 ghost use mathlib.Core.List.{[]};
 ghost use lib.ListN.{length};
 ghost use Rattle.words.specs.Words.{word32};
@@ -16,7 +16,7 @@ ghost use Rattle.sub_key_walk.specs.Trace.{ordinary, walkFrom, keptOf};
 ghost use Rattle.sub_key_walk.specs.Judge.{fault, counts, judge};
 ghost use Rattle.sub_key_walk.specs.Answers.{BUDGET-LIMIT, none, measured, walkTold, walkPaper, WalkAnswered};
 ghost use Rattle.sub_key_walk.specs.Leaf.{readOf, LeafAnswered};
-ghost use Rattle.sub_key_walk.specs.Walk.{Entries, Stands, Whole, Filled, reaching, Names, namedBy, topRead, Roomy};
+ghost use Rattle.sub_key_walk.specs.Walk.{Entries, Stands, Whole, Bound, Sized, Filled, reaching, Names, namedBy, topRead, Roomy};
 
 // The greatest budget, the greatest count of subkeys or of values, and the levels of lists.
 const BUDGET_LIMIT: u32 = 65536;
@@ -24,6 +24,14 @@ const BUDGET_LIMIT: u32 = 65536;
 pub const COUNT_LIMIT: u32 = 1048576;
 
 const LEVELS: usize = 8;
+
+// Of so many entries of a leaf list those dropped are counted at once; of more, in pieces of so many.
+const FEW: usize = 32;
+
+const PIECE: usize = 1024;
+
+// Where some may be dropped, they are written in blocks of so many.
+const BLOCK: usize = 16;
 
 // Offsets kept, lists read, entries of leaf lists, dropped ones included, and those dropped.
 pub struct Counts {
@@ -115,6 +123,33 @@ fn word(image: &[u8], at: usize) -> u32
     words::join4(image[at], image[at + 1], image[at + 2], image[at + 3])
 }
 
+// An entry of 8 bytes whole, as one number: so the compiler loads it whole, and makes wide steps without a gap behind the last one.
+fn pair(image: &[u8], at: usize) -> u64
+    requires { ⌜ at + 8 ≤ length (now image) ⌝ }
+    ensures { λ r. ⌜ r % 4294967296 ≡ word32 (now (image .entry)) at ⌝ }
+{
+    (image[at] as u64)
+        | ((image[at + 1] as u64) << 8)
+        | ((image[at + 2] as u64) << 16)
+        | ((image[at + 3] as u64) << 24)
+        | ((image[at + 4] as u64) << 32)
+        | ((image[at + 5] as u64) << 40)
+        | ((image[at + 6] as u64) << 48)
+        | ((image[at + 7] as u64) << 56)
+}
+
+// The offset of an entry of `size` bytes at a place.
+fn offset_at(image: &[u8], size: usize, at: usize) -> u32
+    requires { ⌜ 4 ≤ size ⌝ ∗ ⌜ at + size ≤ length (now image) ⌝ }
+    ensures { λ r. ⌜ r ≡ word32 (now (image .entry)) at ⌝ }
+{
+    if size == 8 {
+        (pair(image, at) % 4294967296) as u32
+    } else {
+        word(image, at)
+    }
+}
+
 // 1 for an entry that is dropped, and 0 for one that is kept.
 fn drop_one(v: u32, base: u32) -> u32
     ensures { λ r. ⌜ r ≡ dropOne (v + base) ⌝ }
@@ -122,18 +157,57 @@ fn drop_one(v: u32, base: u32) -> u32
     if 4294967295 - base < v { 1 } else { 0 }
 }
 
-// How many of the entries of `size` bytes each, the first at `pos`, are dropped: those whose sum with the base passes 32 bits. The
-// loops over entries are called with a constant size, so that the compiler makes wide steps of them.
-fn dropped_of(image: &[u8], base: u32, size: usize, pos: usize, count: u16) -> u32
-    requires { ⌜ Entries (now image) size count pos ⌝ }
-    ensures { λ r. ⌜ r ≡ leafDropped (now (image .entry)) base size count pos ⌝ }
+// A bound of the offsets of entries: all their bits, in two streams, so that two loads go at a time. The loops over entries are called
+// with a constant size, so that the compiler makes wide steps of them.
+fn bound_of(image: &[u8], size: usize, pos: usize, n: usize) -> u32
+    requires { ⌜ Entries (now image) size n pos ⌝ }
+    ensures { λ r. ⌜ Bound (now (image .entry)) size n pos r ⌝ }
 {
-    let n = count as usize;
+    let half = n / 2;
+    let mut near: u32 = 0;
+    let mut further: u32 = 0;
+    let mut at = pos;
+    let mut far = pos + size * half;
+    let mut i: usize = 0;
+    while i < half {
+        let v = offset_at(image, size, at);
+        let u = offset_at(image, size, far);
+        near = near | v;
+        further = further | u;
+        at = at + size;
+        far = far + size;
+        i = i + 1;
+    }
+    if half + half < n {
+        let last = offset_at(image, size, far);
+        further = further | last;
+    }
+    near | further
+}
+
+// Whether it is plain from their bound that none of the entries is dropped.
+fn fits(image: &[u8], base: u32, size: usize, pos: usize, n: usize) -> bool
+    requires { ⌜ Entries (now image) size n pos ⌝ ∗ ⌜ Sized size ⌝ }
+    ensures { λ r. ⌜ Whole (now (image .entry)) base size n pos r ⌝ }
+{
+    let most = 4294967295 - base;
+    if size == 4 {
+        bound_of(image, 4, pos, n) <= most
+    } else {
+        bound_of(image, 8, pos, n) <= most
+    }
+}
+
+// How many of the entries of `size` bytes each, the first at `pos`, are dropped: those whose sum with the base passes 32 bits.
+fn dropped_of(image: &[u8], base: u32, size: usize, pos: usize, n: usize) -> u32
+    requires { ⌜ Entries (now image) size n pos ⌝ ∗ ⌜ n ≤ 65535 ⌝ }
+    ensures { λ r. ⌜ r ≡ leafDropped (now (image .entry)) base size n pos ⌝ }
+{
     let mut dropped: u32 = 0;
     let mut at = pos;
     let mut i: usize = 0;
     while i < n {
-        let v = word(image, at);
+        let v = offset_at(image, size, at);
         dropped = dropped + drop_one(v, base);
         at = at + size;
         i = i + 1;
@@ -141,31 +215,87 @@ fn dropped_of(image: &[u8], base: u32, size: usize, pos: usize, count: u16) -> u
     dropped
 }
 
+// The same, with the size as a constant.
+fn count_dropped(image: &[u8], base: u32, size: usize, pos: usize, n: usize) -> u32
+    requires { ⌜ Entries (now image) size n pos ⌝ ∗ ⌜ Sized size ⌝ ∗ ⌜ n ≤ 65535 ⌝ }
+    ensures { λ r. ⌜ r ≡ leafDropped (now (image .entry)) base size n pos ⌝ }
+{
+    if size == 4 {
+        dropped_of(image, base, 4, pos, n)
+    } else {
+        dropped_of(image, base, 8, pos, n)
+    }
+}
+
+// The smaller of two.
+fn smaller(a: usize, b: usize) -> usize
+    ensures { λ r. ⌜ r ≡ min a b ⌝ }
+{
+    if a < b { a } else { b }
+}
+
+// The same of many entries, piece by piece, as none is dropped of most: the first piece of which one may be dropped, and all behind it, are counted.
+fn dropped_wide(image: &[u8], base: u32, size: usize, pos: usize, n: usize) -> u32
+    requires { ⌜ Entries (now image) size n pos ⌝ ∗ ⌜ Sized size ⌝ ∗ ⌜ n ≤ 65535 ⌝ }
+    ensures { λ r. ⌜ r ≡ leafDropped (now (image .entry)) base size n pos ⌝ }
+{
+    let mut at = pos;
+    let mut left = n;
+    while FEW < left {
+        let k = smaller(left, PIECE);
+        if !fits(image, base, size, at, k) {
+            return count_dropped(image, base, size, at, left);
+        }
+        at = at + size * k;
+        left = left - k;
+    }
+    count_dropped(image, base, size, at, left)
+}
+
 // Writes the sums of entries of which none is dropped from a place on, and gives the place behind them.
-fn fill_whole(
+fn whole_of(
     image: &[u8],
     base: u32,
     size: usize,
     pos: usize,
-    count: u16,
+    n: usize,
     out: &mut [u32],
     place: usize,
 ) -> usize
-    requires { ⌜ Entries (now image) size count pos ⌝ ∗ ⌜ leafDropped (now image) base size count pos ≡ 0 ⌝ ∗ ⌜ place + length (leafKept (now image) base size count pos) ≤ length (now out) ⌝ }
-    ensures { λ r. ⌜ Filled (leafKept (now (image .entry)) base size count pos) (now (out .entry)) place r (now (out .exit)) ⌝ }
+    requires { ⌜ Entries (now image) size n pos ⌝ ∗ ⌜ leafDropped (now image) base size n pos ≡ 0 ⌝ ∗ ⌜ place + length (leafKept (now image) base size n pos) ≤ length (now out) ⌝ }
+    ensures { λ r. ⌜ Filled (leafKept (now (image .entry)) base size n pos) (now (out .entry)) place r (now (out .exit)) ⌝ }
 {
-    let n = count as usize;
     let mut at = pos;
     let mut to = place;
     let mut i: usize = 0;
     while i < n {
-        let v = word(image, at);
+        let v = offset_at(image, size, at);
         out[to] = v + base;
         at = at + size;
         to = to + 1;
         i = i + 1;
     }
     to
+}
+
+// The same, with the size as a constant.
+fn fill_whole(
+    image: &[u8],
+    base: u32,
+    size: usize,
+    pos: usize,
+    n: usize,
+    out: &mut [u32],
+    place: usize,
+) -> usize
+    requires { ⌜ Entries (now image) size n pos ⌝ ∗ ⌜ Sized size ⌝ ∗ ⌜ leafDropped (now image) base size n pos ≡ 0 ⌝ ∗ ⌜ place + length (leafKept (now image) base size n pos) ≤ length (now out) ⌝ }
+    ensures { λ r. ⌜ Filled (leafKept (now (image .entry)) base size n pos) (now (out .entry)) place r (now (out .exit)) ⌝ }
+{
+    if size == 4 {
+        whole_of(image, base, 4, pos, n, out, place)
+    } else {
+        whole_of(image, base, 8, pos, n, out, place)
+    }
 }
 
 // One entry more: written where it is kept. The place behind it.
@@ -181,25 +311,24 @@ fn put_kept(v: u32, base: u32, out: &mut [u32], to: usize) -> usize
     }
 }
 
-// The same of entries of which some may be dropped.
-fn fill_kept(
+// The same of entries of which some may be dropped, one by one.
+fn fill_each(
     image: &[u8],
     base: u32,
     size: usize,
     pos: usize,
-    count: u16,
+    n: usize,
     out: &mut [u32],
     place: usize,
 ) -> usize
-    requires { ⌜ Entries (now image) size count pos ⌝ ∗ ⌜ place + length (leafKept (now image) base size count pos) ≤ length (now out) ⌝ }
-    ensures { λ r. ⌜ Filled (leafKept (now (image .entry)) base size count pos) (now (out .entry)) place r (now (out .exit)) ⌝ }
+    requires { ⌜ Entries (now image) size n pos ⌝ ∗ ⌜ place + length (leafKept (now image) base size n pos) ≤ length (now out) ⌝ }
+    ensures { λ r. ⌜ Filled (leafKept (now (image .entry)) base size n pos) (now (out .entry)) place r (now (out .exit)) ⌝ }
 {
-    let n = count as usize;
     let mut at = pos;
     let mut to = place;
     let mut i: usize = 0;
     while i < n {
-        let v = word(image, at);
+        let v = offset_at(image, size, at);
         to = put_kept(v, base, out, to);
         at = at + size;
         i = i + 1;
@@ -207,38 +336,46 @@ fn fill_kept(
     to
 }
 
-fn fill_entries(
+// The same block by block, and one by one in a block of which one may be dropped and behind the last.
+fn fill_kept(
     image: &[u8],
     base: u32,
     size: usize,
     pos: usize,
-    count: u16,
-    whole: bool,
+    n: usize,
     out: &mut [u32],
     place: usize,
 ) -> usize
-    requires { ⌜ Entries (now image) size count pos ⌝ ∗ ⌜ Whole (now image) base size count pos whole ⌝ ∗ ⌜ place + length (leafKept (now image) base size count pos) ≤ length (now out) ⌝ }
-    ensures { λ r. ⌜ Filled (leafKept (now (image .entry)) base size count pos) (now (out .entry)) place r (now (out .exit)) ⌝ }
+    requires { ⌜ Entries (now image) size n pos ⌝ ∗ ⌜ Sized size ⌝ ∗ ⌜ place + length (leafKept (now image) base size n pos) ≤ length (now out) ⌝ }
+    ensures { λ r. ⌜ Filled (leafKept (now (image .entry)) base size n pos) (now (out .entry)) place r (now (out .exit)) ⌝ }
 {
-    if whole {
-        fill_whole(image, base, size, pos, count, out, place)
-    } else {
-        fill_kept(image, base, size, pos, count, out, place)
+    let mut at = pos;
+    let mut to = place;
+    let mut left = n;
+    while BLOCK <= left {
+        if fits(image, base, size, at, BLOCK) {
+            to = fill_whole(image, base, size, at, BLOCK, out, to);
+        } else {
+            to = fill_each(image, base, size, at, BLOCK, out, to);
+        }
+        at = at + size * BLOCK;
+        left = left - BLOCK;
     }
+    fill_each(image, base, size, at, left, out, to)
 }
 
-// How many entries of the leaf list that stands at a position are dropped.
-fn dropped_in(image: &[u8], base: u32, position: usize, leaf: LeafList) -> u32
+// How many entries of the leaf list that stands at a position are dropped, where they are few.
+fn dropped_few(image: &[u8], base: u32, position: usize, leaf: LeafList) -> u32
     requires { ⌜ Stands (now image) position leaf ⌝ }
     ensures { λ r. ⌜ r ≡ leafDropped (now (image .entry)) base (leaf .«entry_size») (leaf .count) (position + 8) ⌝ }
 {
-    let count = leaf.count;
+    let n = leaf.count as usize;
     let size = leaf.entry_size;
     let pos = position + 8;
     if size == 4 {
-        dropped_of(image, base, 4, pos, count)
+        dropped_of(image, base, 4, pos, n)
     } else {
-        dropped_of(image, base, 8, pos, count)
+        dropped_of(image, base, 8, pos, n)
     }
 }
 
@@ -247,7 +384,12 @@ fn read_leaf(image: &[u8], base: u32, position: usize, leaf: LeafList) -> LeafRe
     requires { ⌜ Stands (now image) position leaf ⌝ }
     ensures { λ r. ⌜ r ≡ readOf (leafOf (now (image .entry)) base position (leaf .«entry_size») (leaf .count)) ⌝ }
 {
-    let dropped = dropped_in(image, base, position, leaf);
+    let n = leaf.count as usize;
+    let dropped = if n <= FEW {
+        dropped_few(image, base, position, leaf)
+    } else {
+        dropped_wide(image, base, leaf.entry_size as usize, position + 8, n)
+    };
     let entries = leaf.count as u32;
     let kept = entries - dropped;
     LeafRead {
@@ -270,13 +412,21 @@ fn fill_leaf(
     requires { ⌜ Stands (now image) position leaf ⌝ ∗ ⌜ Whole (now image) base (leaf .«entry_size») (leaf .count) (position + 8) whole ⌝ ∗ ⌜ place + length (leafKept (now image) base (leaf .«entry_size») (leaf .count) (position + 8)) ≤ length (now out) ⌝ }
     ensures { λ r. ⌜ Filled (leafKept (now (image .entry)) base (leaf .«entry_size») (leaf .count) (position + 8)) (now (out .entry)) place r (now (out .exit)) ⌝ }
 {
-    let count = leaf.count;
+    let n = leaf.count as usize;
     let size = leaf.entry_size;
     let pos = position + 8;
-    if size == 4 {
-        fill_entries(image, base, 4, pos, count, whole, out, place)
+    if whole {
+        if size == 4 {
+            whole_of(image, base, 4, pos, n, out, place)
+        } else {
+            whole_of(image, base, 8, pos, n, out, place)
+        }
     } else {
-        fill_entries(image, base, 8, pos, count, whole, out, place)
+        if size == 4 {
+            fill_kept(image, base, 4, pos, n, out, place)
+        } else {
+            fill_kept(image, base, 8, pos, n, out, place)
+        }
     }
 }
 
@@ -348,7 +498,12 @@ fn measure_named(image: &[u8], base: u32, budget: u32, first: usize, count: u16)
                     return refuse(fault.number, position, lists);
                 }
                 SubKeyList::Leaf(leaf) => {
-                    let lost = dropped_in(image, base, position, leaf);
+                    let n = leaf.count as usize;
+                    let lost = if n <= FEW {
+                        dropped_few(image, base, position, leaf)
+                    } else {
+                        dropped_wide(image, base, leaf.entry_size as usize, position + 8, n)
+                    };
                     lists = lists + 1;
                     entries = entries + (leaf.count as u32);
                     dropped = dropped + lost;

@@ -7,20 +7,20 @@ use Rattle.sub_key_walk.proofs.dropped_of.Statement.{statement}
 use Rattle.sub_key_walk.proofs.dropped_of.Tie as tie
 
 abbrev Inv-loop : tie.InvT-loop
-Inv-loop image base size pos count n dropped₀ at₀ i₀ dropped at i = Counting image base size count pos at dropped i
+Inv-loop image base size pos n dropped₀ at₀ i₀ dropped at i = Counting image base size n pos at dropped i
 
 abbrev μ-loop : tie.MeasureT-loop
-μ-loop image base size pos count n dropped₀ at₀ i₀ dropped at i = count - i
+μ-loop image base size pos n dropped₀ at₀ i₀ dropped at i = n - i
 
 loop-holds : tie.Need-loop-holds Inv-loop μ-loop
 loop-holds c =
     let a = c .before .args in
-    counting-start (a .image .now) (a .base) (a .size) (a .count) (a .pos) (c .before .pre)
+    counting-start (a .image .now) (a .base) (a .size) (a .n) (a .pos) (c .before .pre .0)
 
-word-requires : tie.Need-word-requires Inv-loop μ-loop
-word-requires c κs =
+offset-at-requires : tie.Need-offset-at-requires Inv-loop μ-loop
+offset-at-requires c κs =
     let a = c .before .before .before .args in
-    entry-there (a .size) (a .count) (c .before .loop .i) (c .loop-test .taken) (a .image .now) (c .before .loop .at) (c .before .before .before .pre .word) (c .before .loop .inv .inside)
+    entry-there (a .size) (a .n) (c .before .loop .i) (c .loop-test .taken) (a .image .now) (c .before .loop .at) (c .before .before .before .pre .0 .word) (c .before .loop .inv .inside)
 
 drop-one-requires : tie.Need-drop-one-requires Inv-loop μ-loop
 drop-one-requires c κs = search needs
@@ -28,14 +28,14 @@ drop-one-requires c κs = search needs
 add-dropped : tie.Need-add-dropped Inv-loop μ-loop
 add-dropped c =
     let a = c .before .before .before .before .before .args in
-    let k = keep-or-drop (c .before .word .result + a .base) in
+    let k = keep-or-drop (c .before .offset-at .result + a .base) in
     let e = c .drop-one .ensures in
     search needs
 
 add-at : tie.Need-add-at Inv-loop μ-loop
 add-at c =
     let a = c .before .before .before .before .before .args in
-    let l = entry-next (a .size) (a .count) (c .before .before .before .loop .i) (c .before .before .loop-test .taken) (a .image .now) (c .before .before .before .loop .at) (c .before .before .before .loop .inv .inside) in
+    let l = entry-next (a .size) (a .n) (c .before .before .before .loop .i) (c .before .before .loop-test .taken) (a .image .now) (c .before .before .before .loop .at) (c .before .before .before .loop .inv .inside) in
     search needs
 
 add-i : tie.Need-add-i Inv-loop μ-loop
@@ -47,12 +47,12 @@ loop-less c = search needs
 loop-again : tie.Need-loop-again Inv-loop μ-loop
 loop-again c =
     let a = c .before .before .before .before .before .args in
-    counting-step (a .image .now) (a .base) (a .size) (a .count) (a .pos) (c .before .before .before .before .before .pre) _ _ _ (c .before .before .before .loop .inv) (c .before .before .loop-test .taken) (c .before .word .ensures) (c .drop-one .ensures)
+    counting-step (a .image .now) (a .base) (a .size) (a .n) (a .pos) (c .before .before .before .before .before .pre .0) _ _ _ (c .before .before .before .loop .inv) (c .before .before .loop-test .taken) (c .before .offset-at .ensures) (c .drop-one .ensures)
 
 returns : tie.Need-returns Inv-loop μ-loop
 returns c =
     let a = c .before .before .before .args in
-    counting-end (a .image .now) (a .base) (a .size) (a .count) (a .pos) (c .before .before .before .pre) _ _ _ (c .before .loop .inv) (c .loop-test .left)
+    counting-end (a .image .now) (a .base) (a .size) (a .n) (a .pos) (c .before .before .before .pre .0) _ _ _ (c .before .loop .inv) (c .loop-test .left)
 
 pub dropped-of-spec : {M : Type 1} → statement M
 dropped-of-spec =
@@ -61,7 +61,7 @@ dropped-of-spec =
     Inv-loop
     μ-loop
     loop-holds
-    word-requires
+    offset-at-requires
     drop-one-requires
     add-dropped
     add-at

@@ -1,94 +1,41 @@
-use mathlib.Core.Path.{_≡_}
-use Prim.Native.Nat.{_-_}
-use Rattle.sub_key_list.specs.Leaves.{leafDropped}
-use Rattle.sub_key_walk.proofs.Entries.{entry-there, entry-next, Filling, filling-start, filling-end, whole-next, whole-start}
+use mathlib.Core.Path.{refl}
+use mathlib.Core.Bool.{true}
+use Rattle.sub_key_walk.proofs.Entries.{fill-asks, fill-told}
 use borrow.Author.Needs.{needs}
 use Rattle.sub_key_walk.proofs.fill_whole.Statement.{statement}
 use Rattle.sub_key_walk.proofs.fill_whole.Tie as tie
 
-abbrev Inv-loop : tie.InvT-loop
-Inv-loop image base size pos count out₀ place n at₀ to₀ i₀ out at to i =
-    Filling image base size count pos out₀ place out at to i × (leafDropped image base size (count - i) at ≡ 0)
-
-abbrev μ-loop : tie.MeasureT-loop
-μ-loop image base size pos count out₀ place n at₀ to₀ i₀ out at to i = count - i
-
-loop-holds : tie.Need-loop-holds Inv-loop μ-loop
-loop-holds c =
-    let a = c .before .before .args in
-    (filling-start (a .image .now) (a .base) (a .size) (a .count) (a .pos) (a .out .now) (a .place) (c .before .before .pre .0) (c .before .before .pre .1 .1), whole-start (a .image .now) (a .base) (a .size) (a .count) (a .pos) (c .before .before .pre .1 .0))
-
-word-requires : tie.Need-word-requires Inv-loop μ-loop
-word-requires c κs =
+whole-of-requires : tie.Need-whole-of-requires
+whole-of-requires c κs =
     let a = c .before .before .before .before .args in
-    entry-there (a .size) (a .count) (c .before .loop .i) (c .loop-test .taken) (a .image .now) (c .before .loop .at) (c .before .before .before .before .pre .0 .word) (c .before .loop .inv .0 .inside)
+    let q = c .before .before .before .before .pre in
+    let x = fill-asks (a .image .now) (a .base) (a .size) (a .n) (a .pos) 4 (c .before .if1 .taken) true (a .out .now) (a .place) (q .0) (λ t. q .1 .1 .0) (q .1 .1 .1) in
+    (x .0, (x .1 .0 refl, x .1 .1))
 
-add-out : tie.Need-add-out Inv-loop μ-loop
-add-out c =
-    let a = c .before .before .before .before .before .args in
-    let l = c .before .before .loop in
-    let w = whole-next (a .image .now) (a .base) (a .size) (a .count) (a .pos) (a .out .now) (a .place) _ _ _ _ _ (l .inv .0) (l .inv .1) (c .before .loop-test .taken) (c .word .ensures) in
-    search needs
+whole-of-requires-2 : tie.Need-whole-of-requires-2
+whole-of-requires-2 c κs =
+    let a = c .before .before .before .before .args in
+    let q = c .before .before .before .before .pre in
+    let x = fill-asks (a .image .now) (a .base) (a .size) (a .n) (a .pos) 8 (c .before .before .before .before .pre .1 .0 (c .before .if1 .left)) true (a .out .now) (a .place) (q .0) (λ t. q .1 .1 .0) (q .1 .1 .1) in
+    (x .0, (x .1 .0 refl, x .1 .1))
 
-mul-out : tie.Need-mul-out Inv-loop μ-loop
-mul-out c = search needs
+same-length : tie.Need-same-length
+same-length c = search needs
 
-slice-write-out : tie.Need-slice-write-out Inv-loop μ-loop
-slice-write-out c =
-    let a = c .before .before .before .before .before .args in
-    let l = c .before .before .loop in
-    let w = whole-next (a .image .now) (a .base) (a .size) (a .count) (a .pos) (a .out .now) (a .place) _ _ _ _ _ (l .inv .0) (l .inv .1) (c .before .loop-test .taken) (c .word .ensures) in
-    search needs
-
-add-at : tie.Need-add-at Inv-loop μ-loop
-add-at c =
-    let a = c .before .before .before .before .before .args in
-    let l = entry-next (a .size) (a .count) (c .before .before .loop .i) (c .before .loop-test .taken) (a .image .now) (c .before .before .loop .at) (c .before .before .loop .inv .0 .inside) in
-    search needs
-
-add-to : tie.Need-add-to Inv-loop μ-loop
-add-to c =
-    let a = c .before .before .before .before .before .args in
-    let l = c .before .before .loop in
-    let w = whole-next (a .image .now) (a .base) (a .size) (a .count) (a .pos) (a .out .now) (a .place) _ _ _ _ _ (l .inv .0) (l .inv .1) (c .before .loop-test .taken) (c .word .ensures) in
-    search needs
-
-add-i : tie.Need-add-i Inv-loop μ-loop
-add-i c = search needs
-
-loop-less : tie.Need-loop-less Inv-loop μ-loop
-loop-less c = search needs
-
-loop-again : tie.Need-loop-again Inv-loop μ-loop
-loop-again c =
-    let a = c .before .before .before .before .before .args in
-    let l = c .before .before .loop in
-    let w = whole-next (a .image .now) (a .base) (a .size) (a .count) (a .pos) (a .out .now) (a .place) _ _ _ _ _ (l .inv .0) (l .inv .1) (c .before .loop-test .taken) (c .word .ensures) in
-    (w .next, w .rest)
-
-same-length : tie.Need-same-length Inv-loop μ-loop
-same-length c = c .before .loop .inv .0 .long
-
-returns : tie.Need-returns Inv-loop μ-loop
+returns : tie.Need-returns
 returns c =
-    let a = c .before .before .before .before .args in
-    filling-end (a .image .now) (a .base) (a .size) (a .count) (a .pos) (a .out .now) (a .place) _ _ _ _ (c .before .loop .inv .0) (c .loop-test .left)
+    let a = c .before .before .before .before .before .before .before .args in
+    fill-told (a .image .now) (a .base) (a .size) (a .n) (a .pos) 4 (c .before .before .before .before .if1 .taken) (a .out .now) (a .place) (c .before .before .whole-of .ensures)
+
+same-length-2 : tie.Need-same-length-2
+same-length-2 c = search needs
+
+returns-2 : tie.Need-returns-2
+returns-2 c =
+    let a = c .before .before .before .before .before .before .before .args in
+    fill-told (a .image .now) (a .base) (a .size) (a .n) (a .pos) 8 (c .before .before .before .before .before .before .before .pre .1 .0 (c .before .before .before .before .if1 .left)) (a .out .now) (a .place) (c .before .before .whole-of2 .ensures)
 
 pub fill-whole-spec : {M : Type 1} → statement M
 fill-whole-spec =
     tie.close
-    (tie.spec
-    Inv-loop
-    μ-loop
-    loop-holds
-    word-requires
-    add-out
-    mul-out
-    slice-write-out
-    add-at
-    add-to
-    add-i
-    loop-less
-    loop-again
-    same-length
-    returns)
+    (tie.spec whole-of-requires whole-of-requires-2 same-length returns same-length-2 returns-2)

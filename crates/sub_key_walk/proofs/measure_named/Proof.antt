@@ -1,8 +1,11 @@
 use mathlib.Core.Path.{sym, ap, refl, _∙_}
+use mathlib.Core.Logic.{⊎-elim}
 use Rattle.sub_key_list.specs.Lists.{listPaper}
 use Rattle.sub_key_walk.specs.Judge.{judge}
 use Rattle.sub_key_walk.specs.Answers.{walkPaper}
 use Rattle.sub_key_walk.specs.Walk.{namedBy, topRead}
+use Rattle.sub_key_walk.proofs.Traces.{leaf-stands}
+use Rattle.sub_key_walk.proofs.Entries.{standing-entries}
 use Rattle.sub_key_walk.proofs.Open.{opens, weight, pop-less, entry-in}
 use Rattle.sub_key_walk.proofs.Measures.{Measuring, measuring-start, measuring-end, measuring-pop, measuring-refused, found-there, found-level, found-step, measuring-leaf, leaf-less, measuring-index, index-less, index-room}
 use native.Mathlib.Omega.{arith}
@@ -93,14 +96,30 @@ returns c =
 enum-known-leaf : tie.Need-enum-known-leaf Inv-loop μ-loop
 enum-known-leaf c = search needs
 
-dropped-in-requires : tie.Need-dropped-in-requires Inv-loop μ-loop
-dropped-in-requires c κs =
-    found-there (c .before .before .before .before .before .before .before .loop .inv) (c .before .before .before .before .before .before .loop-test .taken) (c .before .before .before .before .before .if1 .left) (c .before .before .before .before .word .ensures) _ (sym (ap listPaper (c .before .leaf .given .1)) ∙ c .before .before .before .reach .ensures)
+cast-n : tie.Need-cast-n Inv-loop μ-loop
+cast-n c = search needs
+
+dropped-few-requires : tie.Need-dropped-few-requires Inv-loop μ-loop
+dropped-few-requires c κs =
+    found-there (c .before .before .before .before .before .before .before .before .before .loop .inv) (c .before .before .before .before .before .before .before .before .loop-test .taken) (c .before .before .before .before .before .before .before .if1 .left) (c .before .before .before .before .before .before .word .ensures) _ (sym (ap listPaper (c .before .before .before .leaf .given .1)) ∙ c .before .before .before .before .before .reach .ensures)
+
+cast-dropped-wide : tie.Need-cast-dropped-wide Inv-loop μ-loop
+cast-dropped-wide c = search needs
+
+add-dropped-wide : tie.Need-add-dropped-wide Inv-loop μ-loop
+add-dropped-wide c =
+    let h = leaf-stands _ _ _ _ _ (found-there (c .before .before .before .before .before .before .before .before .before .before .loop .inv) (c .before .before .before .before .before .before .before .before .before .loop-test .taken) (c .before .before .before .before .before .before .before .before .if1 .left) (c .before .before .before .before .before .before .before .word .ensures) _ (sym (ap listPaper (c .before .before .before .before .leaf .given .1)) ∙ c .before .before .before .before .before .before .reach .ensures)) .header in
+    search needs
+
+dropped-wide-requires : tie.Need-dropped-wide-requires Inv-loop μ-loop
+dropped-wide-requires c κs =
+    let x = leaf-stands _ _ _ _ _ (found-there (c .before .before .before .before .before .before .before .before .before .before .loop .inv) (c .before .before .before .before .before .before .before .before .before .loop-test .taken) (c .before .before .before .before .before .before .before .before .if1 .left) (c .before .before .before .before .before .before .before .word .ensures) _ (sym (ap listPaper (c .before .before .before .before .leaf .given .1)) ∙ c .before .before .before .before .before .before .reach .ensures)) in
+    (standing-entries x, (x .other-size, omega arith))
 
 add-lists : tie.Need-add-lists Inv-loop μ-loop
 add-lists c =
-    let k = found-step (c .before .before .before .before .before .before .before .before .loop .inv) (c .before .before .before .before .before .before .before .loop-test .taken) (c .before .before .before .before .before .before .if1 .left) (c .before .before .before .before .before .word .ensures) _ (sym (ap listPaper (c .before .before .leaf .given .1)) ∙ c .before .before .before .before .reach .ensures) in
-    let b = c .before .before .before .before .before .before .before .before .before .before .pre .1 .1 in
+    let k = found-step (c .before .before .before .before .before .before .before .before .before .loop .inv) (c .before .before .before .before .before .before .before .before .loop-test .taken) (c .before .before .before .before .before .before .before .if1 .left) (c .before .before .before .before .before .before .word .ensures) _ (sym (ap listPaper (c .before .before .before .leaf .given .1)) ∙ c .before .before .before .before .before .reach .ensures) in
+    let b = c .before .before .before .before .before .before .before .before .before .before .before .pre .1 .1 in
     search needs
 
 cast-entries : tie.Need-cast-entries Inv-loop μ-loop
@@ -108,24 +127,24 @@ cast-entries c = search needs
 
 add-entries : tie.Need-add-entries Inv-loop μ-loop
 add-entries c =
-    let k = found-step (c .before .before .before .before .before .before .before .before .before .loop .inv) (c .before .before .before .before .before .before .before .before .loop-test .taken) (c .before .before .before .before .before .before .before .if1 .left) (c .before .before .before .before .before .before .word .ensures) _ (sym (ap listPaper (c .before .before .before .leaf .given .1)) ∙ c .before .before .before .before .before .reach .ensures) in
-    let v = c .before .before .before .before .before .before .before .before .before .loop .inv in
-    let b = c .before .before .before .before .before .before .before .before .before .before .before .pre .1 .1 in
+    let k = found-step (c .before .before .before .before .before .before .before .before .before .before .loop .inv) (c .before .before .before .before .before .before .before .before .before .loop-test .taken) (c .before .before .before .before .before .before .before .before .if1 .left) (c .before .before .before .before .before .before .before .word .ensures) _ (sym (ap listPaper (c .before .before .before .before .leaf .given .1)) ∙ c .before .before .before .before .before .before .reach .ensures) in
+    let v = c .before .before .before .before .before .before .before .before .before .before .loop .inv in
+    let b = c .before .before .before .before .before .before .before .before .before .before .before .before .pre .1 .1 in
     search needs
 
 add-dropped : tie.Need-add-dropped Inv-loop μ-loop
 add-dropped c =
-    let v = measuring-leaf (c .before .before .before .before .before .before .before .before .before .loop .inv) (c .before .before .before .before .before .before .before .before .loop-test .taken) (c .before .before .before .before .before .before .before .if1 .left) (c .before .before .before .before .before .before .word .ensures) _ (sym (ap listPaper (c .before .before .before .leaf .given .1)) ∙ c .before .before .before .before .before .reach .ensures) (c .before .dropped-in .ensures) (omega arith) in
-    let b = c .before .before .before .before .before .before .before .before .before .before .before .pre .1 .1 in
+    let v = measuring-leaf (c .before .before .before .before .before .before .before .before .before .before .before .loop .inv) (c .before .before .before .before .before .before .before .before .before .before .loop-test .taken) (c .before .before .before .before .before .before .before .before .before .if1 .left) (c .before .before .before .before .before .before .before .before .word .ensures) _ (sym (ap listPaper (c .before .before .before .before .before .leaf .given .1)) ∙ c .before .before .before .before .before .before .before .reach .ensures) (⊎-elim (λ w. w .2 ∙ w .1 .ensures) (λ w. w .3 ∙ w .2 .ensures) (c .before .before .if2 .came)) (omega arith) in
+    let b = c .before .before .before .before .before .before .before .before .before .before .before .before .before .pre .1 .1 in
     search needs
 
 loop-less-2 : tie.Need-loop-less-2 Inv-loop μ-loop
 loop-less-2 c =
-    leaf-less (c .before .before .before .before .before .before .before .before .before .loop .inv) (c .before .before .before .before .before .before .before .before .loop-test .taken) (c .before .before .before .before .before .before .before .if1 .left) (c .before .before .before .before .before .before .word .ensures) _ (sym (ap listPaper (c .before .before .before .leaf .given .1)) ∙ c .before .before .before .before .before .reach .ensures)
+    leaf-less (c .before .before .before .before .before .before .before .before .before .before .before .loop .inv) (c .before .before .before .before .before .before .before .before .before .before .loop-test .taken) (c .before .before .before .before .before .before .before .before .before .if1 .left) (c .before .before .before .before .before .before .before .before .word .ensures) _ (sym (ap listPaper (c .before .before .before .before .before .leaf .given .1)) ∙ c .before .before .before .before .before .before .before .reach .ensures)
 
 loop-again-2 : tie.Need-loop-again-2 Inv-loop μ-loop
 loop-again-2 c =
-    measuring-leaf (c .before .before .before .before .before .before .before .before .before .loop .inv) (c .before .before .before .before .before .before .before .before .loop-test .taken) (c .before .before .before .before .before .before .before .if1 .left) (c .before .before .before .before .before .before .word .ensures) _ (sym (ap listPaper (c .before .before .before .leaf .given .1)) ∙ c .before .before .before .before .before .reach .ensures) (c .before .dropped-in .ensures) (omega arith)
+    measuring-leaf (c .before .before .before .before .before .before .before .before .before .before .before .loop .inv) (c .before .before .before .before .before .before .before .before .before .before .loop-test .taken) (c .before .before .before .before .before .before .before .before .before .if1 .left) (c .before .before .before .before .before .before .before .before .word .ensures) _ (sym (ap listPaper (c .before .before .before .before .before .leaf .given .1)) ∙ c .before .before .before .before .before .before .before .reach .ensures) (⊎-elim (λ w. w .2 ∙ w .1 .ensures) (λ w. w .3 ∙ w .2 .ensures) (c .before .before .if2 .came)) (omega arith)
 
 enum-known-index : tie.Need-enum-known-index Inv-loop μ-loop
 enum-known-index c = search needs
@@ -211,7 +230,11 @@ measure-named-spec =
     refuse-requires
     returns
     enum-known-leaf
-    dropped-in-requires
+    cast-n
+    dropped-few-requires
+    cast-dropped-wide
+    add-dropped-wide
+    dropped-wide-requires
     add-lists
     cast-entries
     add-entries

@@ -369,14 +369,13 @@ fn dropped_few(image: &[u8], base: u32, position: usize, leaf: LeafList) -> u32
     requires { ⌜ Stands (now image) position leaf ⌝ }
     ensures { λ r. ⌜ r ≡ leafDropped (now (image .entry)) base (leaf .«entry_size») (leaf .count) (position + 8) ⌝ }
 {
-    let n = leaf.count as usize;
-    let size = leaf.entry_size;
-    let pos = position + 8;
-    if size == 4 {
-        dropped_of(image, base, 4, pos, n)
-    } else {
-        dropped_of(image, base, 8, pos, n)
-    }
+    count_dropped(
+        image,
+        base,
+        leaf.entry_size as usize,
+        position + 8,
+        leaf.count as usize,
+    )
 }
 
 // What it gives, counted.
@@ -416,11 +415,7 @@ fn fill_leaf(
     let size = leaf.entry_size;
     let pos = position + 8;
     if whole {
-        if size == 4 {
-            whole_of(image, base, 4, pos, n, out, place)
-        } else {
-            whole_of(image, base, 8, pos, n, out, place)
-        }
+        fill_whole(image, base, size as usize, pos, n, out, place)
     } else {
         if size == 4 {
             fill_kept(image, base, 4, pos, n, out, place)

@@ -152,6 +152,12 @@ fn compare_random(rounds: usize) {
     assert!([0, 2, 4, 7, 8, 9, 13, 14, 15].iter().all(|n| seen[*n] > 20) && dropped > 20 && sums.iter().chain(&wide).all(|n| *n > 20), "not all is reached");
 }
 
+/// Who is the k-th in a turn: another is the first every second turn, and every other turn goes backwards, so that each comes behind each alike.
+fn turn_of(k: usize, turn: usize, many: usize) -> usize {
+    let at = (k + turn / 2) % many;
+    if turn % 2 == 0 { at } else { many - 1 - at }
+}
+
 fn time_row(row: &mut Timed, walks: &[Walk], turns: usize, buffer: &mut [u32]) {
     // a small row is called many times in one timing, each call with places of its own
     let calls = (4096 / row.places.max(1)).clamp(1, 256);
@@ -160,7 +166,7 @@ fn time_row(row: &mut Timed, walks: &[Walk], turns: usize, buffer: &mut [u32]) {
     // the first turn finds the image in no cache and is not counted
     for turn in 0..=turns {
         for k in 0..walks.len() {
-            let who = (k + turn) % walks.len();
+            let who = turn_of(k, turn, walks.len());
             let out = black_box(&mut buffer[..calls * row.places]);
             out.fill(0);
             let t = Instant::now();
@@ -178,7 +184,7 @@ fn time_row(row: &mut Timed, walks: &[Walk], turns: usize, buffer: &mut [u32]) {
 fn time_sum(times: &mut [Vec<f64>], sums: &[Sum], turns: usize, image: &[u8]) {
     for turn in 0..turns {
         for k in 0..sums.len() {
-            let who = (k + turn) % sums.len();
+            let who = turn_of(k, turn, sums.len());
             let t = Instant::now();
             for _ in 0..256 {
                 let b = black_box(image);

@@ -831,6 +831,24 @@ fn wide(o: &mut Out<impl Write>) {
     o.values(131_070, 1, 0, 131_070);
 }
 
+/// Leaf lists of lengths around those at which the code goes another way (a block of 16, 32, a piece of 1,024), of which no entry is
+/// dropped, or some: the first, the last, two in the middle, three apart.
+fn long_leaves(o: &mut Out<impl Write>) {
+    let base = 16;
+    for (kind, each) in [(b"li", 4), (b"lh", 8)] {
+        for n in [15, 16, 17, 31, 32, 33, 34, 47, 48, 49, 1023, 1024, 1025, 1056, 1057] {
+            for lost in [vec![], vec![0], vec![n - 1], vec![n / 2 - 1, n / 2], vec![0, n / 3, n - 2]] {
+                let offsets: Vec<u32> = (0..n).map(|i| if lost.contains(&i) { u32::MAX - 15 + i as u32 % 16 } else { 8 * i as u32 }).collect();
+                let mut m = vec![0; base + 8 + each * n];
+                leaf_list(&mut m, base, kind, &offsets, base as u32);
+                o.image(&m);
+                o.walk(1, 0, base as u32, BUDGET, n as u32);
+                o.leaf(base as u64, base as u32, (n - lost.len()) as u32);
+            }
+        }
+    }
+}
+
 // ---- hives
 
 /// Every record and list that can be seen in a hive, and what they name.
@@ -948,6 +966,7 @@ fn stored(o: &mut Out<impl Write>, seed: u64, files: &[String], rust: bool) {
     hive_bins(o, &mut Rng(seed), files, 2);
     letters(o);
     any_letters(o, &mut Rng(seed), 100);
+    if !rust { o.one_in = [1; TAGS]; long_leaves(o); }
 }
 
 /// The samples about bins as they arrive, which are stored by themselves: among them each case of the whole check that is stored. Behind
@@ -2493,7 +2512,7 @@ fn main() {
     let to = BufWriter::with_capacity(1 << 16, std::io::stdout().lock());
     let mut o = Out::new(to, [1; TAGS], 0);
     match (args.first().map(|s| s.as_str()), number(0), number(1)) {
-        (Some("fixed"), _, _) => { boundaries(&mut o); fixed(&mut o); wide(&mut o); cells(&mut o, &mut Rng(0), 0); puts(&mut o, &mut Rng(0), 0); leaves(&mut o, &mut Rng(0), 0, 0); data_edges(&mut o, true); steps(&mut o, true); deleted(&mut o, true); letters(&mut o); arriving(&mut o, true); records_between(&mut o, true); short_names(&mut o); totals(&mut o, true) }
+        (Some("fixed"), _, _) => { boundaries(&mut o); fixed(&mut o); wide(&mut o); long_leaves(&mut o); cells(&mut o, &mut Rng(0), 0); puts(&mut o, &mut Rng(0), 0); leaves(&mut o, &mut Rng(0), 0, 0); data_edges(&mut o, true); steps(&mut o, true); deleted(&mut o, true); letters(&mut o); arriving(&mut o, true); records_between(&mut o, true); short_names(&mut o); totals(&mut o, true) }
         (Some("hives"), _, Some(seed)) => { hives(&mut o, &mut Rng(seed), &args[2..], 12, 40); hive_bins(&mut o, &mut Rng(seed), &args[2..], 40); hive_parts(&mut o, &mut Rng(seed), &args[2..], 40); hive_totals(&mut o, &mut Rng(seed), &args[2..], 40) }
         (Some("stored"), _, Some(seed)) => stored(&mut o, seed, &args[2..], false),
         (Some("stored-parts"), _, Some(seed)) => stored_parts(&mut o, seed, &args[2..]),

@@ -28,7 +28,7 @@ const LEVELS: usize = 8;
 // Of so many entries of a leaf list those dropped are counted at once; of more, in pieces of so many.
 const FEW: usize = 32;
 
-const PIECE: usize = 1024;
+const PIECE: usize = 4096;
 
 // Where some may be dropped, they are written in blocks of so many.
 const BLOCK: usize = 16;

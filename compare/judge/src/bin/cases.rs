@@ -831,12 +831,12 @@ fn wide(o: &mut Out<impl Write>) {
     o.values(131_070, 1, 0, 131_070);
 }
 
-/// Leaf lists of lengths around those at which the code goes another way (a block of 16, 32, a piece of 1,024), of which no entry is
+/// Leaf lists of lengths around those at which the code goes another way (a block of 16, few of at most 32, a piece of 4,096), of which no entry is
 /// dropped, or some: the first, the last, two in the middle, three apart.
 fn long_leaves(o: &mut Out<impl Write>) {
     let base = 16;
     for (kind, each) in [(b"li", 4), (b"lh", 8)] {
-        for n in [15, 16, 17, 31, 32, 33, 34, 47, 48, 49, 1023, 1024, 1025, 1056, 1057] {
+        for n in [15, 16, 17, 31, 32, 33, 34, 47, 48, 49, 4095, 4096, 4097, 4128, 4129] {
             for lost in [vec![], vec![0], vec![n - 1], vec![n / 2 - 1, n / 2], vec![0, n / 3, n - 2]] {
                 let offsets: Vec<u32> = (0..n).map(|i| if lost.contains(&i) { u32::MAX - 15 + i as u32 % 16 } else { 8 * i as u32 }).collect();
                 let mut m = vec![0; base + 8 + each * n];

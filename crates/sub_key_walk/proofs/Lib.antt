@@ -1,7 +1,5 @@
 -- What several proofs use, demand 3 (`Demand`), and document 01's examples (`Examples`).
 pub mod Walks
-pub mod Open
-pub mod Measures
 pub mod Fills
 pub mod Papers
 pub mod Answers

@@ -134,12 +134,13 @@ index-of-kind kind count n e = go (eqb kind RI) refl
     go true q = let x : lists.index count ≡ lists.index n = rw q at e in (eqb-true _ _ q, (cc))
     go false q = let x : lists.leaf kind (entrySize kind) count ≡ lists.index n = rw q at e in absurd (let y : _≡_ {A = ℕ} 0 1 = cc in omega arith)
 
-pub index-names : (s : List ℕ) (p n : ℕ) → listAt s p ≡ success (lists.index n) → p + 8 + 4 * n ≤ length s
+pub entry-of-index : (s : List ℕ) (p n pos i : ℕ) → listAt s p ≡ success (lists.index n) → i < n → pos ≡ p + 8 + 4 * i → pos + 4 ≤ length s
 unfolding entrySize
-index-names s p n e =
+entry-of-index s p n pos i e h q =
     let r = read-readable s p (rw e tt) in
     let f = index-of-kind (kindAt s p) (countAt s p) n (same-success (sym (readable-list s p r) ∙ e)) in
-    rw (f .0, f .1) at (r .entries)
+    let k : p + 8 + 4 * n ≤ length s = rw (f .0, f .1) at (r .entries) in
+    omega arith
 
 -- ---- all lists of a trace
 

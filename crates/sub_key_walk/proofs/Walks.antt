@@ -1,22 +1,35 @@
--- Laws of traces, of what a budget makes of them, and of what is found on reaching a list. Assumes nothing.
-use mathlib.Core.Path.{_≡_, refl, ap, sym, _∙_}
+-- Laws of traces, of what a budget makes of them, and of the answers of the walk that measures. Assumes nothing.
+use mathlib.Core.Path.{_≡_, refl, ap, sym, subst, _∙_}
 use mathlib.Core.List.{List, [], _∷_, _++_, append-assoc}
 use mathlib.Core.Bool.{Bool, true, false, cond}
-use Prim.Native.Nat.{ℕ, zero, suc, _+_, _-_}
+use Prim.Native.Nat.{ℕ, zero, suc, _+_, _-_, _*_, _≤_, _<_}
+use native.Mathlib.Nat.{sub-zero}
 use native.Mathlib.Omega.{arith}
-use borrow.Author.Tests.{eq-eqb, ne-eqb, eqb-true, eqb-false}
+use borrow.Author.Tests.{eq-eqb, ne-eqb}
 use lib.Dec.{eqb}
 use Rattle.words.specs.Words.{word32}
 use Rattle.words.specs.Refusals.{TOO-DEEP, OUT-OF-STEPS}
-use Rattle.words.specs.Paper.{Told, Paper, success, refused, by}
-use Rattle.words.proofs.Papers.{success-refused, same-told}
-use Rattle.sub_key_list.specs.Lists.{Listed}
+use Rattle.words.specs.Paper.{Told, Paper, success, refused}
+use Rattle.words.proofs.Papers.{success-refused}
+use Rattle.sub_key_list.specs.Lists.{Listed, listAt, listPaper}
 use Rattle.sub_key_list.specs.Lists as lists
-use Rattle.sub_key_list.specs.Leaves.{leafOf}
-use Rattle.sub_key_walk.specs.Trace.{Event, deep, bad, index, leaf, each, below, trace, keptIn, keptOf, total}
-use Rattle.sub_key_walk.specs.Judge.{fault, inBudget, one, after, judge}
-use Rattle.sub_key_walk.specs.Walk.{reaching}
+use Rattle.sub_key_list.specs.Leaves.{leafOf, leafDropped}
+use Rattle.sub_key_list.specs.declared.LeafList.{LeafList}
+use Rattle.sub_key_list.specs.declared.IndexList.{IndexList}
+use Rattle.sub_key_list.specs.declared.SubKeyList.{SubKeyList}
+use Rattle.sub_key_list.specs.declared.SubKeyList.the-variants as found
+use Rattle.words.specs.declared.Refusal.{Refusal}
+use Rattle.sub_key_list.proofs.Leaves.{leaf-all}
+use Rattle.sub_key_walk.specs.Trace.{Event, deep, index, leaf, each, below, trace, ordinary, LEVELS, walkFrom, keptIn, keptOf, listsIn, entriesIn, droppedIn, total}
+use Rattle.sub_key_walk.specs.Judge.{fault, counts, counted, inBudget, one, after, judge}
+use Rattle.sub_key_walk.specs.Answers.{BUDGET-LIMIT, none, walkPaper}
+use Rattle.sub_key_walk.specs.Leaf.{readOf}
+use Rattle.sub_key_walk.specs.Walk.{Bounded, Small, withLeaf, Walk}
 use Rattle.sub_key_walk.specs.declared.Counts.{Counts}
+use Rattle.sub_key_walk.specs.declared.LeafRead.{LeafRead}
+use Rattle.sub_key_walk.specs.declared.WalkRefusal.{WalkRefusal}
+use Rattle.sub_key_walk.specs.declared.WalkAnswer.{WalkAnswer}
+use Rattle.sub_key_walk.specs.declared.WalkAnswer.the-variants.{Read, Refused}
 
 -- ---- traces
 
@@ -33,22 +46,6 @@ trace-in hd (suc k) s base offset h = rw pred-suc
   where
     pred-suc : suc k - 1 ≡ k
     pred-suc = omega arith
-
--- by what stands there
-module _ (hd : ℕ → ℕ → Paper Listed) (levels : ℕ) (s : List ℕ) (base offset : ℕ) (h : levels ≡ 0 → ⊥) where
-  pub trace-bad : (t : Told) → hd levels (offset + base) ≡ refused t → trace hd levels s base offset ≡ bad (t .number) (offset + base) ∷ []
-  unfolding below
-  trace-bad t e = rw (trace-in hd levels s base offset h, e)
-
-  pub trace-leaf : (kind z n : ℕ) → hd levels (offset + base) ≡ success (lists.leaf kind z n)
-      → trace hd levels s base offset ≡ leaf (offset + base) (leafOf s base (offset + base) z n) ∷ []
-  unfolding below
-  trace-leaf kind z n e = rw (trace-in hd levels s base offset h, e)
-
-  pub trace-index : (n : ℕ) → hd levels (offset + base) ≡ success (lists.index n)
-      → trace hd levels s base offset ≡ index (offset + base) n ∷ each (trace hd (levels - 1) s base) s n (offset + base + 8)
-  unfolding below
-  trace-index n e = rw (trace-in hd levels s base offset h, e)
 
 module _ (f : ℕ → List Event) (s : List ℕ) where
   pub each-next : (k j pos : ℕ) → k ≡ suc j → each f s k pos ≡ f (word32 s pos) ++ each f s j (pos + 4)
@@ -130,57 +127,176 @@ module _ (hd : ℕ → ℕ → Paper Listed) (budget : ℕ) (st : Counts) where
         unfolding below judge one inBudget after
         judge-bad t e = rw (trace-in hd levels s base offset h, e, ne-eqb _ _ k)
 
--- ---- what is found on reaching a list
+        judge-leaf : (kind z n : ℕ) → hd levels (offset + base) ≡ success (lists.leaf kind z n)
+            → success (counted st (leaf (offset + base) (leafOf s base (offset + base) z n))) ≡ judge budget st (trace hd levels s base offset)
+        unfolding below judge one inBudget after
+        judge-leaf kind z n e = rw (trace-in hd levels s base offset h, e, ne-eqb _ _ k)
 
-module _ (hd : ℕ → ℕ → Paper Listed) (levels lists budget p : ℕ) where
-  -- a list: then a level and a step are left, and it is the list that stands there
-  pub record Found (l : Listed) : Type 0 where
-    pub deeper : levels ≡ 0 → ⊥
-    pub unspent : lists ≡ budget → ⊥
-    pub is : hd levels p ≡ success l
+        judge-index : (n : ℕ) → hd levels (offset + base) ≡ success (lists.index n)
+            → judge budget (counted st (index (offset + base) n)) (each (trace hd (levels - 1) s base) s n (offset + base + 8))
+            ≡ judge budget st (trace hd levels s base offset)
+        unfolding below judge one inBudget after
+        judge-index n e = rw (trace-in hd levels s base offset h, e, ne-eqb _ _ k)
 
-  pub reaching-read : (l : Listed) → reaching hd levels lists budget p ≡ success l → Found l
-  unfolding reaching
-  reaching-read l e = go (eqb levels 0) (eqb lists budget) refl refl
-    where
-      go : (a b : Bool) → eqb levels 0 ≡ a → eqb lists budget ≡ b → Found l
-      go true b x y = absurd (success-refused (sym (rw x at e)))
-      go false true x y = absurd (success-refused (sym (rw (x, y) at e)))
-      go false false x y = record { deeper = eqb-false _ _ x; unspent = eqb-false _ _ y; is = rw (x, y) at e }
+-- ---- what a walk gives
 
-  pub reaching-deep : levels ≡ 0 → refused (by TOO-DEEP p) ≡ reaching hd levels lists budget p
-  unfolding reaching
-  reaching-deep e = rw (eq-eqb _ _ e)
+-- an answer that is refused is no success
+refused-read : {r : WalkAnswer} {x : Told} {t : Counts} → walkPaper r ≡ refused x → r ≡ Read t → ⊥
+refused-read e q = success-refused (sym (ap walkPaper q) ∙ e)
 
-  module _ (h : levels ≡ 0 → ⊥) where
-    pub reaching-spent : lists ≡ budget → refused (by OUT-OF-STEPS p) ≡ reaching hd levels lists budget p
-    unfolding reaching
-    reaching-spent e = rw (ne-eqb _ _ h, eq-eqb _ _ e)
+pub same-read : {t u : Counts} → Read t ≡ Read u → t ≡ u
+same-read q = cc
 
-    pub reaching-there : (lists ≡ budget → ⊥) → hd levels p ≡ reaching hd levels lists budget p
-    unfolding reaching
-    reaching-there k = rw (ne-eqb _ _ h, ne-eqb _ _ k)
+module _ (budget : ℕ) (st : Counts) (es : List Event) where
+  walk-refused : {r : WalkAnswer} {x : Told} → walkPaper r ≡ refused x → refused x ≡ judge budget st es → Walk budget st es r
+  walk-refused e f = record { answer = e ∙ f; bounded = λ t q. absurd (refused-read e q) }
 
--- a refusal: that of the walk, whatever comes behind the list
-pub reaching-refused : (hd : ℕ → ℕ → Paper Listed) (budget : ℕ) (st : Counts) (levels : ℕ) (s : List ℕ) (base offset : ℕ) (t : Told)
-    → reaching hd levels (st .lists) budget (offset + base) ≡ refused t → (es : List Event)
-    → refused (fault (t .number) (offset + base) (st .lists)) ≡ judge budget st (trace hd levels s base offset ++ es)
-unfolding reaching after
-reaching-refused hd budget st levels s base offset t e es = go (eqb levels 0) (eqb (st .lists) budget) refl refl ∙ sym (judge-append budget st (trace hd levels s base offset) es)
-  where
-    front : (n : ℕ) → t .number ≡ n → refused (fault n (offset + base) (st .lists)) ≡ judge budget st (trace hd levels s base offset)
-        → refused (fault (t .number) (offset + base) (st .lists)) ≡ after (judge budget st (trace hd levels s base offset)) (λ st′. judge budget st′ es)
-    front n q r = rw (← r, q)
+  walk-read : {r : WalkAnswer} (t : Counts) → r ≡ Read t → success t ≡ judge budget st es → Bounded budget t → Walk budget st es r
+  walk-read t p e b = record { answer = ap walkPaper p ∙ e; bounded = λ u q. subst (Bounded budget) (same-read (sym p ∙ q)) b }
 
-    go : (a b : Bool) → eqb levels 0 ≡ a → eqb (st .lists) budget ≡ b
-        → refused (fault (t .number) (offset + base) (st .lists)) ≡ after (judge budget st (trace hd levels s base offset)) (λ st′. judge budget st′ es)
-    go true b x y = front TOO-DEEP (ap (λ (u : Told). u .number) (sym (same-told (rw x at e)))) (judge-deep hd budget st levels s base offset (eqb-true _ _ x))
-    go false true x y =
-        front OUT-OF-STEPS (ap (λ (u : Told). u .number) (sym (same-told (rw (x, y) at e))))
-        (judge-spent hd budget st levels s base offset (eqb-false _ _ x) (eqb-true _ _ y))
-    go false false x y = front (t .number) refl (judge-bad hd budget st levels s base offset (eqb-false _ _ x) (eqb-false _ _ y) t (rw (x, y) at e))
+-- what a walk that succeeds says of the definition
+pub walk-success : {budget : ℕ} {st : Counts} {es : List Event} {r : WalkAnswer} {t : Counts}
+    → Walk budget st es r → r ≡ Read t → judge budget st es ≡ success t
+walk-success w q = sym (w .answer) ∙ ap walkPaper q
 
 -- ---- the counts
 
 pub counts-path : {a b : Counts} → a .kept ≡ b .kept → a .lists ≡ b .lists → a .entries ≡ b .entries → a .dropped ≡ b .dropped → a ≡ b
 counts-path p q r d = λ i. record { kept = p i; lists = q i; entries = r i; dropped = d i }
+
+-- an `ri` list counts as a list and gives nothing else
+abbrev pub withIndex : Counts → Counts
+withIndex st = counts (st .kept) (st .lists + 1) (st .entries) (st .dropped)
+
+index-counted : (st : Counts) (p n : ℕ) → withIndex st ≡ counted st (index p n)
+unfolding counted keptIn listsIn entriesIn droppedIn
+index-counted st p n = counts-path (omega arith) refl (omega arith) (omega arith)
+
+-- ---- the loop over the entries of an `ri` list
+
+pub record Indexing (budget : ℕ) (f : ℕ → List Event) (s : List ℕ) (n first : ℕ) (st sum : Counts) (pos i : ℕ) : Type 0 where
+  pub within : i ≤ n
+  pub near : pos ≡ first + 4 * i
+  pub judged : judge budget sum (each f s (n - i) pos) ≡ judge budget st (each f s n first)
+  pub few : Bounded budget sum
+
+module _ (budget : ℕ) (f : ℕ → List Event) (s : List ℕ) (n first : ℕ) (st : Counts) where
+  pub indexing-start : Bounded budget st → Indexing budget f s n first st st first 0
+  indexing-start b = record { within = omega arith; near = omega arith; judged = rw sub-zero; few = b }
+
+  module _ (sum : Counts) (pos i : ℕ) (v : Indexing budget f s n first st sum pos i) where
+    module _ (h : i < n) (next : ℕ) (e : next ≡ word32 s pos) where
+      split : each f s (n - i) pos ≡ f next ++ each f s (n - (i + 1)) (pos + 4)
+      split = rw e (each-next f s (n - i) (n - (i + 1)) pos (omega arith))
+
+      -- what the rest makes of the answer one level lower
+      onward : (a : Paper Counts) → judge budget sum (f next) ≡ a → after a (λ st′. judge budget st′ (each f s (n - (i + 1)) (pos + 4))) ≡ judge budget st (each f s n first)
+      onward a q =
+          let rest : List Event = each f s (n - (i + 1)) (pos + 4) in
+          ap (λ (x : Paper Counts). after x (λ st′. judge budget st′ rest)) (sym q) ∙ sym (judge-append budget sum (f next) rest)
+          ∙ ap (judge budget sum) (sym split) ∙ v .judged
+
+      pub indexing-step : (r : WalkAnswer) (t : Counts) → Walk budget sum (f next) r → r ≡ Read t → Indexing budget f s n first st t (pos + 4) (i + 1)
+      unfolding after
+      indexing-step r t w q =
+          record { within = omega arith; near = omega (arith, v .near); judged = onward (success t) (walk-success w q); few = w .bounded t q }
+
+      indexing-refused : {r : WalkAnswer} {x : Told} → Walk budget sum (f next) r → walkPaper r ≡ refused x → refused x ≡ judge budget st (each f s n first)
+      unfolding after
+      indexing-refused {r} {x} w q = onward (refused x) (sym (w .answer) ∙ q)
+
+    indexing-answer : n ≤ i → success sum ≡ judge budget st (each f s n first)
+    unfolding judge
+    indexing-answer h = ap (judge budget sum) (sym (each-none f s (n - i) pos (omega arith))) ∙ v .judged
+
+-- ---- the answers of a walk, each from what its code has found
+
+module _ (hd : ℕ → ℕ → Paper Listed) (budget : ℕ) (st : Counts) (levels : ℕ) (s : List ℕ) (base offset : ℕ) {r : WalkAnswer} where
+  pub walk-deep : walkPaper r ≡ refused (fault TOO-DEEP (offset + base) (st .lists)) → levels ≡ 0 → Walk budget st (trace hd levels s base offset) r
+  walk-deep e z = walk-refused budget st (trace hd levels s base offset) e (judge-deep hd budget st levels s base offset z)
+
+  pub walk-spent : walkPaper r ≡ refused (fault OUT-OF-STEPS (offset + base) (st .lists)) → (levels ≡ 0 → ⊥) → st .lists ≡ budget
+      → Walk budget st (trace hd levels s base offset) r
+  walk-spent e h z = walk-refused budget st (trace hd levels s base offset) e (judge-spent hd budget st levels s base offset h z)
+
+-- what a leaf list gives is small
+pub leaf-small : (s : List ℕ) (base p size n : ℕ) {t : LeafRead} → n < 65536 → t ≡ readOf (leafOf s base p size n) → Small t
+leaf-small s base p size n m d = subst Small (sym d) (record { every = leaf-all s base size n (p + 8); few = omega arith })
+
+-- a list is reached within the levels and the budget, at small counts, and `g` is what the code finds there
+pub record Reached (hd : ℕ → ℕ → Paper Listed) (budget : ℕ) (st : Counts) (levels : ℕ) (s : List ℕ) (base offset : ℕ) (g : SubKeyList) : Type 0 where
+  pub deeper : levels ≡ 0 → ⊥
+  pub unspent : st .lists ≡ budget → ⊥
+  pub few : Bounded budget st
+  pub is : hd levels (offset + base) ≡ listPaper g
+
+module _ {hd : ℕ → ℕ → Paper Listed} {budget : ℕ} {st : Counts} {levels : ℕ} {s : List ℕ} {base offset : ℕ} where
+  pub walk-bad : {g : Refusal} → Reached hd budget st levels s base offset (found.Refused g) → {r : WalkAnswer}
+      → walkPaper r ≡ refused (fault (g .number) (offset + base) (st .lists)) → Walk budget st (trace hd levels s base offset) r
+  walk-bad {g} x e =
+      walk-refused budget st (trace hd levels s base offset) e
+      (judge-bad hd budget st levels s base offset (x .deeper) (x .unspent) _ (x .is))
+
+  -- another list can be counted
+  pub reached-small : {g : SubKeyList} → Reached hd budget st levels s base offset g → budget ≤ BUDGET-LIMIT → Bounded 65535 st
+  reached-small x m =
+      let u : st .lists ≡ budget → ⊥ = x .unspent in
+      let few : Bounded budget st = x .few in
+      record { every = omega arith; some-entries = omega arith; some-lists = omega arith }
+
+  -- a leaf list that is counted keeps the counts small
+  pub walk-leaf : {l : LeafList} → Reached hd budget st levels s base offset (found.Leaf l) → l .count < 65536
+      → {t : LeafRead} → t ≡ readOf (leafOf s base (offset + base) (l .«entry_size») (l .count))
+      → {w : WalkAnswer} → w ≡ Read (withLeaf st t) → Walk budget st (trace hd levels s base offset) w
+  unfolding counted keptIn listsIn entriesIn droppedIn
+  walk-leaf {l} x m d q =
+      let u : st .lists ≡ budget → ⊥ = x .unspent in
+      let few : Bounded budget st = x .few in
+      let k = leaf-all s base (l .«entry_size») (l .count) (offset + base + 8) in
+      walk-read budget st (trace hd levels s base offset) _ (q ∙ ap (λ (r : LeafRead). Read (withLeaf st r)) d)
+      (judge-leaf hd budget st levels s base offset (x .deeper) (x .unspent) (l .signature) (l .«entry_size») (l .count) (x .is))
+      (record { every = omega arith; some-entries = omega arith; some-lists = omega arith })
+
+  -- the lists below an `ri` list, from the counts that the code builds
+  module _ {l : IndexList} (x : Reached hd budget st levels s base offset (found.Index l)) where
+    pub index-bounded : Bounded budget (withIndex st)
+    index-bounded =
+        let u : st .lists ≡ budget → ⊥ = x .unspent in
+        let few : Bounded budget st = x .few in
+        record { every = omega arith; some-entries = omega arith; some-lists = omega arith }
+
+    below-index : judge budget (withIndex st) (each (trace hd (levels - 1) s base) s (l .count) (offset + base + 8)) ≡ judge budget st (trace hd levels s base offset)
+    below-index =
+        ap (λ (c : Counts). judge budget c (each (trace hd (levels - 1) s base) s (l .count) (offset + base + 8))) (index-counted st (offset + base) (l .count))
+        ∙ judge-index hd budget st levels s base offset (x .deeper) (x .unspent) (l .count) (x .is)
+
+    module _ {sum : Counts} {pos i : ℕ}
+        (v : Indexing budget (trace hd (levels - 1) s base) s (l .count) (offset + base + 8) (withIndex st) sum pos i) where
+      pub walk-index : l .count ≤ i → {w : WalkAnswer} → w ≡ Read sum → Walk budget st (trace hd levels s base offset) w
+      walk-index m q =
+          walk-read budget st (trace hd levels s base offset) sum q
+          (indexing-answer budget (trace hd (levels - 1) s base) s (l .count) (offset + base + 8) (withIndex st) sum pos i v m ∙ below-index)
+          (v .few)
+
+      pub walk-index-refused : i < l .count → {next : ℕ} → next ≡ word32 s pos → {w : WalkAnswer} {f : WalkRefusal}
+          → Walk budget sum (trace hd (levels - 1) s base next) w → w ≡ Refused f → Walk budget st (trace hd levels s base offset) (Refused f)
+      walk-index-refused m {next} d {w} {f} y e =
+          walk-refused budget st (trace hd levels s base offset) refl
+          (indexing-refused budget (trace hd (levels - 1) s base) s (l .count) (offset + base + 8) (withIndex st) sum pos i v m next d y (ap walkPaper e)
+          ∙ below-index)
+
+-- ---- a top list that is a leaf list, read at once
+
+pub levels-left : LEVELS ≡ 0 → ⊥
+levels-left z = let y : ⊥ = omega arith in y
+
+pub lost-few : (s : List ℕ) (base size n pos : ℕ) {lost : ℕ} → lost ≡ leafDropped s base size n pos → lost ≤ n
+lost-few s base size n pos d = let a = leaf-all s base size n pos in omega (arith, d)
+
+pub top-leaf : (budget : ℕ) (s : List ℕ) (base list kind size n : ℕ) → (0 ≡ budget → ⊥) → listAt s (list + base) ≡ success (lists.leaf kind size n)
+    → {lost : ℕ} → lost ≡ leafDropped s base size n (list + base + 8) → success (counts (n - lost) 1 n lost) ≡ judge budget none (walkFrom s base list)
+unfolding counted keptIn listsIn entriesIn droppedIn
+top-leaf budget s base list kind size n k e {lost} d =
+    let a = leaf-all s base size n (list + base + 8) in
+    ap success (counts-path (omega arith) refl (omega arith) (omega (arith, d)))
+    ∙ judge-leaf (ordinary s) budget none LEVELS s base list levels-left k kind size n e

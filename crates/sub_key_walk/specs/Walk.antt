@@ -1,20 +1,22 @@
 -- What the private functions promise: the loops over the entries of a leaf list, the walk that measures and the walk that fills. Of use
 -- inside this crate only.
-use Prim.Native.Nat.{ℕ, _+_, _-_, _*_, _≤_, _<_}
+use Prim.Native.Nat.{ℕ, _+_, _*_, _≤_, _<_}
 use mathlib.Core.Path.{_≡_}
 use mathlib.Core.List.{List}
-use mathlib.Core.Bool.{Bool, true, cond}
-use lib.Dec.{eqb}
+use mathlib.Core.Bool.{Bool, true}
 use lib.ListN.{length}
 use lib.Seq.{sets}
-use Rattle.words.specs.Refusals.{TOO-DEEP, OUT-OF-STEPS}
-use Rattle.words.specs.Paper.{Paper, success, refused, by}
-use Rattle.sub_key_list.specs.Lists.{Listed, leaf, listAt}
+use Rattle.words.specs.Paper.{success}
+use Rattle.sub_key_list.specs.Lists.{leaf, listAt}
 use Rattle.sub_key_list.specs.Leaves.{leafDropped}
 use Rattle.sub_key_list.specs.declared.LeafList.{LeafList}
-use Rattle.sub_key_walk.specs.Trace.{Event, each, trace, ordinary, LEVELS, keptOf, droppedOf}
-use Rattle.sub_key_walk.specs.Judge.{counts}
+use Rattle.sub_key_walk.specs.Trace.{Event, keptOf, droppedOf}
+use Rattle.sub_key_walk.specs.Judge.{counts, judge}
+use Rattle.sub_key_walk.specs.Answers.{walkPaper}
 use Rattle.sub_key_walk.specs.declared.Counts.{Counts}
+use Rattle.sub_key_walk.specs.declared.LeafRead.{LeafRead}
+use Rattle.sub_key_walk.specs.declared.WalkAnswer.{WalkAnswer}
+use Rattle.sub_key_walk.specs.declared.WalkAnswer.the-variants.{Read}
 
 -- ---- one leaf list
 
@@ -44,26 +46,29 @@ pub record Filled (ks old : List ℕ) (place r : ℕ) (new : List ℕ) : Type 0 
   pub next : r ≡ place + length ks
   pub written : new ≡ sets old place ks
 
+-- ---- the counts
+
+-- the counts of a walk stay small, and every entry is kept or dropped
+pub record Bounded (budget : ℕ) (st : Counts) : Type 0 where
+  pub every : st .kept + st .dropped ≡ st .entries
+  pub some-entries : st .entries ≤ 65535 * st .lists
+  pub some-lists : st .lists ≤ budget
+
+-- and so do those of one leaf list
+pub record Small (r : LeafRead) : Type 0 where
+  pub every : r .kept + r .dropped ≡ r .entries
+  pub few : r .entries ≤ 65535
+
+-- the counts with a leaf list more, by what it gave
+abbrev pub withLeaf : Counts → LeafRead → Counts
+withLeaf st r = counts (st .kept + r .kept) (st .lists + 1) (st .entries + r .entries) (st .dropped + r .dropped)
+
 -- ---- the walks
 
--- "On reaching a list, at its offset plus base: 14, 15", then what stands there, with so many levels left and after so many lists. `hd`
--- is how a list is read.
-unfoldable pub reaching : (ℕ → ℕ → Paper Listed) → ℕ → ℕ → ℕ → ℕ → Paper Listed
-reaching hd levels lists budget p =
-    cond (eqb levels 0) (refused (by TOO-DEEP p))
-    (cond (eqb lists budget) (refused (by OUT-OF-STEPS p)) (hd levels p))
-
--- `n` offsets of 4 bytes each, the first at `pos`, are there
-abbrev pub Names : List ℕ → ℕ → ℕ → Type 0
-Names s n pos = pos + 4 * n ≤ length s
-
--- the lists reached from those that a top list names by `n` offsets, the first at `pos`
-abbrev pub namedBy : List ℕ → ℕ → ℕ → ℕ → List Event
-namedBy s base n pos = each (trace (ordinary s) (LEVELS - 1) s base) s n pos
-
--- a top list that is an `ri` list is read, and nothing else
-abbrev pub topRead : Counts
-topRead = counts 0 1 0 0
+-- a walk over the lists `es` from the counts `st`: what it answers, and that its counts stay small
+pub record Walk (budget : ℕ) (st : Counts) (es : List Event) (r : WalkAnswer) : Type 0 where
+  pub answer : walkPaper r ≡ judge budget st es
+  pub bounded : (t : Counts) → r ≡ Read t → Bounded budget t
 
 -- a buffer has room from a place on for what the lists `es` keep and, where that is claimed, none of their entries is dropped
 pub record Roomy (es : List Event) (whole : Bool) (old : List ℕ) (place : ℕ) : Type 0 where

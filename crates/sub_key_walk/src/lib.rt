@@ -1,29 +1,26 @@
 // The subkeys of a key record: the walk from its list through the lists that `ri` lists name, depth first and in order; and those of
-// one leaf list. A walk is measured first and its buffer filled after, so that a refusal leaves the buffer as it was. Each walk is one loop:
-// the `ri` lists that are open stand on a stack, one to a level, of each the place of the next entry and how many are left.
+// one leaf list. A walk is measured first and its buffer filled after, so that a refusal leaves the buffer as it was.
 use sub_key_list::LeafList;
 use sub_key_list::SubKeyList;
-use words::Refusal;
 ghost use mathlib.Core.Path.{_≡_};
 ghost use Prim.Native.Nat.{_+_, _%_, _≤_, min};
 ghost use mathlib.Core.List.{[]};
 ghost use lib.ListN.{length};
 ghost use Rattle.words.specs.Words.{word32};
 ghost use Rattle.words.specs.Paper.{refused, noRoom};
-ghost use Rattle.sub_key_list.specs.Lists.{listPaper};
 ghost use Rattle.sub_key_list.specs.Leaves.{keep, leafKept, dropOne, leafDropped, leafOf};
-ghost use Rattle.sub_key_walk.specs.Trace.{ordinary, walkFrom, keptOf};
+ghost use Rattle.sub_key_walk.specs.Trace.{trace, ordinary, walkFrom, keptOf};
 ghost use Rattle.sub_key_walk.specs.Judge.{fault, counts, judge};
 ghost use Rattle.sub_key_walk.specs.Answers.{BUDGET-LIMIT, none, measured, walkTold, walkPaper, WalkAnswered};
 ghost use Rattle.sub_key_walk.specs.Leaf.{readOf, LeafAnswered};
-ghost use Rattle.sub_key_walk.specs.Walk.{Entries, Stands, Whole, Bound, Sized, Filled, reaching, Names, namedBy, topRead, Roomy};
+ghost use Rattle.sub_key_walk.specs.Walk.{Entries, Stands, Whole, Bound, Sized, Filled, Bounded, Small, withLeaf, Walk, Roomy};
 
 // The greatest budget, the greatest count of subkeys or of values, and the levels of lists.
 const BUDGET_LIMIT: u32 = 65536;
 
 pub const COUNT_LIMIT: u32 = 1048576;
 
-const LEVELS: usize = 8;
+const LEVELS: u32 = 8;
 
 // Of so many entries of a leaf list those dropped are counted at once; of more, in pieces of so many.
 const FEW: usize = 32;
@@ -113,6 +110,18 @@ fn read_so_far(kept: u32, lists: u32, entries: u32, dropped: u32) -> WalkAnswer
         entries,
         dropped,
     })
+}
+
+// The same with a leaf list more, by what it gave.
+fn with_leaf(kept: u32, lists: u32, entries: u32, dropped: u32, read: LeafRead) -> WalkAnswer
+    requires { ⌜ Bounded 65535 (counts kept lists entries dropped) ⌝ ∗ ⌜ Small read ⌝ }
+    ensures { λ r. ⌜ r ≡ WalkAnswer.Read (withLeaf (counts kept lists entries dropped) read) ⌝ }
+{
+    let kept_after = kept + read.kept;
+    let lists_after = lists + 1;
+    let entries_after = entries + read.entries;
+    let dropped_after = dropped + read.dropped;
+    read_so_far(kept_after, lists_after, entries_after, dropped_after)
 }
 
 // The word at a place whose four bytes are there.
@@ -446,152 +455,136 @@ pub fn leaf_sub_keys(image: &[u8], base: u32, position: usize, out: &mut [u32]) 
     }
 }
 
-// What is found on reaching a list at a position, with so many levels left and after so many lists.
-fn reach(image: &[u8], position: usize, levels: usize, lists: u32, budget: u32) -> SubKeyList
-    ensures { λ r. ⌜ listPaper r ≡ reaching (ordinary (now (image .entry))) levels lists budget position ⌝ }
+// Measures the walk of the list at an offset, with so many levels left, after so many offsets kept, lists read, entries and entries
+// dropped.
+fn measure(
+    image: &[u8],
+    base: u32,
+    budget: u32,
+    levels: u32,
+    offset: u32,
+    kept: u32,
+    lists: u32,
+    entries: u32,
+    dropped: u32,
+) -> WalkAnswer
+    requires { ⌜ budget ≤ BUDGET-LIMIT ⌝ ∗ ⌜ Bounded budget (counts kept lists entries dropped) ⌝ }
+    ensures { λ r. ⌜ Walk budget (counts kept lists entries dropped) (trace (ordinary (now (image .entry))) levels (now (image .entry)) base offset) r ⌝ }
 {
+    let position = (offset as usize) + (base as usize);
     if levels == 0 {
-        return SubKeyList::Refused(Refusal {
-            number: words::TOO_DEEP,
-            position,
-        });
+        return refuse(words::TOO_DEEP, position, lists);
     }
     if lists == budget {
-        return SubKeyList::Refused(Refusal {
-            number: words::OUT_OF_STEPS,
-            position,
-        });
+        return refuse(words::OUT_OF_STEPS, position, lists);
     }
-    sub_key_list::read_list(image, position)
-}
-
-// Measures the walk of the lists that the top list names.
-fn measure_named(image: &[u8], base: u32, budget: u32, first: usize, count: u16) -> WalkAnswer
-    requires { ⌜ Names (now image) count first ⌝ ∗ ⌜ 1 ≤ budget ⌝ ∗ ⌜ budget ≤ BUDGET-LIMIT ⌝ }
-    ensures { λ r. ⌜ walkPaper r ≡ judge budget topRead (namedBy (now (image .entry)) base count first) ⌝ }
-{
-    let mut froms = [0usize; LEVELS];
-    let mut rests = [0u16; LEVELS];
-    let mut level: usize = 1;
-    let mut from = first;
-    let mut left = count;
-    let mut lists: u32 = 1;
-    let mut entries: u32 = 0;
-    let mut dropped: u32 = 0;
-    while 0 < level {
-        if left == 0 {
-            level = level - 1;
-            from = froms[level];
-            left = rests[level];
-        } else {
-            let next = word(image, from);
-            let position = (next as usize) + (base as usize);
-            from = from + 4;
-            left = left - 1;
-            match reach(image, position, LEVELS - level, lists, budget) {
-                SubKeyList::Refused(fault) => {
-                    return refuse(fault.number, position, lists);
+    match sub_key_list::read_list(image, position) {
+        SubKeyList::Refused(fault) => refuse(fault.number, position, lists),
+        SubKeyList::Leaf(leaf) => {
+            let read = read_leaf(image, base, position, leaf);
+            with_leaf(kept, lists, entries, dropped, read)
+        }
+        SubKeyList::Index(index) => {
+            let count = index.count;
+            let mut k = kept;
+            let mut l = lists + 1;
+            let mut e = entries;
+            let mut d = dropped;
+            let mut pos = position + 8;
+            let mut i: u16 = 0;
+            while i < count {
+                let next = word(image, pos);
+                match measure(image, base, budget, levels - 1, next, k, l, e, d) {
+                    WalkAnswer::Refused(fault) => {
+                        return WalkAnswer::Refused(fault);
+                    }
+                    WalkAnswer::Read(sum) => {
+                        k = sum.kept;
+                        l = sum.lists;
+                        e = sum.entries;
+                        d = sum.dropped;
+                    }
                 }
-                SubKeyList::Leaf(leaf) => {
-                    let n = leaf.count as usize;
-                    let lost = if n <= FEW {
-                        dropped_few(image, base, position, leaf)
-                    } else {
-                        dropped_wide(image, base, leaf.entry_size as usize, position + 8, n)
-                    };
-                    lists = lists + 1;
-                    entries = entries + (leaf.count as u32);
-                    dropped = dropped + lost;
-                }
-                SubKeyList::Index(index) => {
-                    froms[level] = from;
-                    rests[level] = left;
-                    level = level + 1;
-                    lists = lists + 1;
-                    from = position + 8;
-                    left = index.count;
-                }
+                pos = pos + 4;
+                i = i + 1;
             }
+            read_so_far(k, l, e, d)
         }
     }
-    read_so_far(entries - dropped, lists, entries, dropped)
 }
 
-// Measures the walk from the top list.
-fn measure(image: &[u8], base: u32, budget: u32, list: u32) -> WalkAnswer
+// Writes what the walk of the list at an offset keeps, with so many levels left, to `out` from a place on, and gives the place behind
+// it. A list that cannot be read has nothing: the walk is measured before.
+fn fill(
+    image: &[u8],
+    base: u32,
+    left: u32,
+    offset: u32,
+    whole: bool,
+    out: &mut [u32],
+    place: usize,
+) -> usize
+    requires { ⌜ Roomy (trace (ordinary (now image)) left (now image) base offset) whole (now out) place ⌝ }
+    ensures { λ r. ⌜ Filled (keptOf (trace (ordinary (now (image .entry))) left (now (image .entry)) base offset)) (now (out .entry)) place r (now (out .exit)) ⌝ }
+{
+    if left == 0 {
+        return place;
+    }
+    let position = (offset as usize) + (base as usize);
+    match sub_key_list::read_list(image, position) {
+        SubKeyList::Refused(fault) => place,
+        SubKeyList::Leaf(leaf) => fill_leaf(image, base, position, leaf, whole, out, place),
+        SubKeyList::Index(index) => {
+            let count = index.count;
+            let mut to = place;
+            let mut from = position + 8;
+            let mut k: u16 = 0;
+            while k < count {
+                let next = word(image, from);
+                to = fill(image, base, left - 1, next, whole, out, to);
+                from = from + 4;
+                k = k + 1;
+            }
+            to
+        }
+    }
+}
+
+// Measures the walk from the top list. A leaf list, which most keys have, is read at once.
+fn measure_top(image: &[u8], base: u32, budget: u32, list: u32) -> WalkAnswer
     requires { ⌜ budget ≤ BUDGET-LIMIT ⌝ }
     ensures { λ r. ⌜ walkPaper r ≡ judge budget none (walkFrom (now (image .entry)) base list) ⌝ }
 {
     let position = (list as usize) + (base as usize);
-    match reach(image, position, LEVELS, 0, budget) {
-        SubKeyList::Refused(fault) => refuse(fault.number, position, 0),
-        SubKeyList::Leaf(leaf) => {
-            let read = read_leaf(image, base, position, leaf);
-            read_so_far(read.kept, 1, read.entries, read.dropped)
-        }
-        SubKeyList::Index(index) => measure_named(image, base, budget, position + 8, index.count),
-    }
-}
-
-// Writes what the walk of the lists that the top list names keeps, and gives the place behind it. A list that cannot be read has
-// nothing: the walk is measured before.
-fn fill_named(
-    image: &[u8],
-    base: u32,
-    first: usize,
-    count: u16,
-    whole: bool,
-    out: &mut [u32],
-) -> usize
-    requires { ⌜ Names (now image) count first ⌝ ∗ ⌜ Roomy (namedBy (now image) base count first) whole (now out) 0 ⌝ }
-    ensures { λ r. ⌜ Filled (keptOf (namedBy (now (image .entry)) base count first)) (now (out .entry)) 0 r (now (out .exit)) ⌝ }
-{
-    let mut froms = [0usize; LEVELS];
-    let mut rests = [0u16; LEVELS];
-    let mut level: usize = 1;
-    let mut from = first;
-    let mut left = count;
-    let mut to: usize = 0;
-    while 0 < level {
-        if left == 0 {
-            level = level - 1;
-            from = froms[level];
-            left = rests[level];
-        } else {
-            let named = word(image, from);
-            let position = (named as usize) + (base as usize);
-            from = from + 4;
-            left = left - 1;
-            if level < LEVELS {
-                match sub_key_list::read_list(image, position) {
-                    SubKeyList::Refused(fault) => {}
-                    SubKeyList::Leaf(leaf) => {
-                        to = fill_leaf(image, base, position, leaf, whole, out, to);
-                    }
-                    SubKeyList::Index(index) => {
-                        froms[level] = from;
-                        rests[level] = left;
-                        level = level + 1;
-                        from = position + 8;
-                        left = index.count;
-                    }
-                }
+    if 0 < budget {
+        match sub_key_list::read_list(image, position) {
+            SubKeyList::Leaf(leaf) => {
+                let n = leaf.count as usize;
+                let lost = if n <= FEW {
+                    dropped_few(image, base, position, leaf)
+                } else {
+                    dropped_wide(image, base, leaf.entry_size as usize, position + 8, n)
+                };
+                let all = leaf.count as u32;
+                return read_so_far(all - lost, 1, all, lost);
             }
+            SubKeyList::Index(index) => {}
+            SubKeyList::Refused(fault) => {}
         }
     }
-    to
+    measure(image, base, budget, LEVELS, list, 0, 0, 0, 0)
 }
 
-// Writes what the walk from the top list keeps, and gives the place behind it.
-fn fill(image: &[u8], base: u32, list: u32, whole: bool, out: &mut [u32]) -> usize
+// Writes what the walk from the top list keeps, in the same way, and gives the place behind it.
+fn fill_top(image: &[u8], base: u32, list: u32, whole: bool, out: &mut [u32]) -> usize
     requires { ⌜ Roomy (walkFrom (now image) base list) whole (now out) 0 ⌝ }
     ensures { λ r. ⌜ Filled (keptOf (walkFrom (now (image .entry)) base list)) (now (out .entry)) 0 r (now (out .exit)) ⌝ }
 {
     let position = (list as usize) + (base as usize);
     match sub_key_list::read_list(image, position) {
-        SubKeyList::Refused(fault) => 0,
         SubKeyList::Leaf(leaf) => fill_leaf(image, base, position, leaf, whole, out, 0),
-        SubKeyList::Index(index) => fill_named(image, base, position + 8, index.count, whole, out),
+        SubKeyList::Index(index) => fill(image, base, LEVELS, list, whole, out, 0),
+        SubKeyList::Refused(fault) => 0,
     }
 }
 
@@ -609,7 +602,7 @@ pub fn sub_key_counts(image: &[u8], base: u32, count: u32, list: u32, budget: u3
     if count == 0 {
         return read_so_far(0, 0, 0, 0);
     }
-    measure(image, base, budget, list)
+    measure_top(image, base, budget, list)
 }
 
 // The subkeys of a key record with a subkey count and the offset of its list, into `out`.
@@ -632,7 +625,7 @@ pub fn sub_keys(
                 return WalkAnswer::Refused(full(whole.lists, kept, whole.entries, dropped));
             }
             if 0 < kept {
-                fill(image, base, list, dropped == 0, out);
+                fill_top(image, base, list, dropped == 0, out);
             }
             WalkAnswer::Read(whole)
         }

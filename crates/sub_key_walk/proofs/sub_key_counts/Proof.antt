@@ -29,13 +29,13 @@ returns-3 c =
     let a = c .before .before .before .before .before .args in
     ap walkPaper (c .read-so-far .ensures) ∙ measured-none (a .image .now) (a .base) (a .count) (a .list) (a .budget) (c .before .before .before .if1 .left) (c .before .before .if2 .left) (c .before .if3 .taken)
 
-measure-requires : tie.Need-measure-requires
-measure-requires c κs = search needs
+measure-top-requires : tie.Need-measure-top-requires
+measure-top-requires c κs = search needs
 
 returns-4 : tie.Need-returns-4
 returns-4 c =
     let a = c .before .before .before .before .before .args in
-    c .measure .ensures ∙ sym (measured-walk (a .image .now) (a .base) (a .count) (a .list) (a .budget) (record { small = c .before .before .before .if1 .left; few = c .before .before .if2 .left; some = c .before .if3 .left }))
+    c .measure-top .ensures ∙ sym (measured-walk (a .image .now) (a .base) (a .count) (a .list) (a .budget) (record { small = c .before .before .before .if1 .left; few = c .before .before .if2 .left; some = c .before .if3 .left }))
 
 pub sub-key-counts-spec : {M : Type 1} → statement M
 sub-key-counts-spec =
@@ -47,5 +47,5 @@ sub-key-counts-spec =
     returns-2
     read-so-far-requires
     returns-3
-    measure-requires
+    measure-top-requires
     returns-4)

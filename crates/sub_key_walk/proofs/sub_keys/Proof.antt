@@ -24,8 +24,8 @@ returns c =
     let a = c .before .before .before .before .before .before .before .before .args in
     walk-full (a .image .now) (a .base) (a .count) (a .list) (a .budget) (a .out .now) _ (c .before .before .before .before .before .sub-key-counts .ensures) (c .before .before .before .whole .given .1) (c .before .if1 .taken) (c .full .ensures)
 
-fill-requires : tie.Need-fill-requires
-fill-requires c κs =
+fill-top-requires : tie.Need-fill-top-requires
+fill-top-requires c κs =
     let a = c .before .before .before .before .before .before .before .before .before .args in
     walk-roomy (a .image .now) (a .base) (a .count) (a .list) (a .budget) (a .out .now) _ (c .before .before .before .before .before .before .sub-key-counts .ensures) (c .before .before .before .before .whole .given .1) (c .before .before .if1 .left) (c .before .if2 .taken) refl
 
@@ -40,7 +40,7 @@ same-length c = search needs
 returns-3 : tie.Need-returns-3
 returns-3 c =
     let a = c .before .before .before .before .before .before .before .before .before .before .before .before .args in
-    walk-filled (a .image .now) (a .base) (a .count) (a .list) (a .budget) (a .out .now) _ (c .before .before .before .before .before .before .before .before .before .sub-key-counts .ensures) (c .before .before .before .before .before .before .before .whole .given .1) (c .before .before .before .before .before .if1 .left) (c .before .before .before .before .if2 .taken) (c .before .before .fill .ensures)
+    walk-filled (a .image .now) (a .base) (a .count) (a .list) (a .budget) (a .out .now) _ (c .before .before .before .before .before .before .before .before .before .sub-key-counts .ensures) (c .before .before .before .before .before .before .before .whole .given .1) (c .before .before .before .before .before .if1 .left) (c .before .before .before .before .if2 .taken) (c .before .before .fill-top .ensures)
 
 returns-4 : tie.Need-returns-4
 returns-4 c =
@@ -57,7 +57,7 @@ sub-keys-spec =
     cast-if1
     full-requires
     returns
-    fill-requires
+    fill-top-requires
     returns-2
     same-length
     returns-3

@@ -550,7 +550,7 @@ fn fill(
     }
 }
 
-// Measures the walk from the top list. A leaf list, which most keys have, is read at once.
+// Measures the walk from the top list. A short leaf list, which most keys have, is read at once.
 fn measure_top(image: &[u8], base: u32, budget: u32, list: u32) -> WalkAnswer
     requires { ⌜ budget ≤ BUDGET-LIMIT ⌝ }
     ensures { λ r. ⌜ walkPaper r ≡ judge budget none (walkFrom (now (image .entry)) base list) ⌝ }
@@ -559,14 +559,11 @@ fn measure_top(image: &[u8], base: u32, budget: u32, list: u32) -> WalkAnswer
     if 0 < budget {
         match sub_key_list::read_list(image, position) {
             SubKeyList::Leaf(leaf) => {
-                let n = leaf.count as usize;
-                let lost = if n <= FEW {
-                    dropped_few(image, base, position, leaf)
-                } else {
-                    dropped_wide(image, base, leaf.entry_size as usize, position + 8, n)
-                };
-                let all = leaf.count as u32;
-                return read_so_far(all - lost, 1, all, lost);
+                if (leaf.count as usize) <= FEW {
+                    let lost = dropped_few(image, base, position, leaf);
+                    let all = leaf.count as u32;
+                    return read_so_far(all - lost, 1, all, lost);
+                }
             }
             SubKeyList::Index(index) => {}
             SubKeyList::Refused(fault) => {}
@@ -575,17 +572,24 @@ fn measure_top(image: &[u8], base: u32, budget: u32, list: u32) -> WalkAnswer
     measure(image, base, budget, LEVELS, list, 0, 0, 0, 0)
 }
 
-// Writes what the walk from the top list keeps, in the same way, and gives the place behind it.
+// Writes what the walk from the top list keeps, and gives the place behind it. A leaf list of which nothing is dropped is written at
+// once.
 fn fill_top(image: &[u8], base: u32, list: u32, whole: bool, out: &mut [u32]) -> usize
     requires { ⌜ Roomy (walkFrom (now image) base list) whole (now out) 0 ⌝ }
     ensures { λ r. ⌜ Filled (keptOf (walkFrom (now (image .entry)) base list)) (now (out .entry)) 0 r (now (out .exit)) ⌝ }
 {
     let position = (list as usize) + (base as usize);
-    match sub_key_list::read_list(image, position) {
-        SubKeyList::Leaf(leaf) => fill_leaf(image, base, position, leaf, whole, out, 0),
-        SubKeyList::Index(index) => fill(image, base, LEVELS, list, whole, out, 0),
-        SubKeyList::Refused(fault) => 0,
+    if whole {
+        match sub_key_list::read_list(image, position) {
+            SubKeyList::Leaf(leaf) => {
+                let size = leaf.entry_size as usize;
+                return fill_whole(image, base, size, position + 8, leaf.count as usize, out, 0);
+            }
+            SubKeyList::Index(index) => {}
+            SubKeyList::Refused(fault) => {}
+        }
     }
+    fill(image, base, LEVELS, list, whole, out, 0)
 }
 
 // The walk from a key record with a subkey count and the offset of its list, with no regard to room: what it counts, and nothing is

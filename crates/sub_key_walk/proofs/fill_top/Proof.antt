@@ -2,7 +2,9 @@ use mathlib.Core.Path.{sym, ap, _∙_}
 use Rattle.sub_key_list.specs.Lists.{listPaper}
 use Rattle.sub_key_walk.specs.Trace.{ordinary, LEVELS}
 use Rattle.sub_key_walk.proofs.Walks.{levels-left}
-use Rattle.sub_key_walk.proofs.Fills.{leaf-room, leaf-whole, fill-leaf, fill-bad}
+use Rattle.sub_key_walk.proofs.Traces.{leaf-stands}
+use Rattle.sub_key_walk.proofs.Entries.{standing-entries}
+use Rattle.sub_key_walk.proofs.Fills.{leaf-room, leaf-whole, fill-leaf}
 use borrow.Author.Needs.{needs}
 use Rattle.sub_key_walk.proofs.fill_top.Statement.{statement}
 use Rattle.sub_key_walk.proofs.fill_top.Tie as tie
@@ -16,39 +18,46 @@ read-list-requires c κs = search needs
 enum-known-leaf : tie.Need-enum-known-leaf
 enum-known-leaf c = search needs
 
-fill-leaf-requires : tie.Need-fill-leaf-requires
-fill-leaf-requires c κs =
-    let a = c .before .before .before .before .before .before .before .args in
-    let e = (sym (c .before .before .before .before .read-list .ensures) ∙ ap listPaper (c .before .before .leaf .given .1)) in
-    (e, (leaf-whole (ordinary (a .image .now)) LEVELS (a .image .now) (a .base) (a .list) levels-left e (c .before .before .before .before .before .before .before .pre), leaf-room (ordinary (a .image .now)) LEVELS (a .image .now) (a .base) (a .list) levels-left e (c .before .before .before .before .before .before .before .pre)))
+cast-size : tie.Need-cast-size
+cast-size c = search needs
 
-enum-known-index : tie.Need-enum-known-index
-enum-known-index c = search needs
+add-fill-whole : tie.Need-add-fill-whole
+add-fill-whole c =
+    let h = leaf-stands _ _ _ _ _ (sym (c .before .before .before .before .read-list .ensures) ∙ ap listPaper (c .before .before .leaf .given .1)) .header in
+    search needs
 
-fill-requires : tie.Need-fill-requires
-fill-requires c κs = search needs
+cast-fill-whole : tie.Need-cast-fill-whole
+cast-fill-whole c = search needs
 
-enum-known-fault : tie.Need-enum-known-fault
-enum-known-fault c = search needs
+fill-whole-requires : tie.Need-fill-whole-requires
+fill-whole-requires c κs =
+    let a = c .before .before .before .before .before .before .before .before .before .before .args in
+    let e = (sym (c .before .before .before .before .before .before .read-list .ensures) ∙ ap listPaper (c .before .before .before .before .leaf .given .1)) in
+    let x = leaf-stands (a .image .now) _ _ _ _ e in
+    (standing-entries x, (x .other-size, (leaf-whole (ordinary (a .image .now)) LEVELS (a .image .now) (a .base) (a .list) levels-left e (c .before .before .before .before .before .before .before .before .before .before .pre) (c .before .before .before .before .before .before .before .if1 .taken), leaf-room (ordinary (a .image .now)) LEVELS (a .image .now) (a .base) (a .list) levels-left e (c .before .before .before .before .before .before .before .before .before .before .pre))))
 
 same-length : tie.Need-same-length
 same-length c = search needs
 
 returns : tie.Need-returns
 returns c =
-    let a = c .before .before .before .before .before .before .before .before .before .before .args in
-    fill-leaf (ordinary (a .image .now)) LEVELS (a .image .now) (a .base) (a .list) levels-left (sym (c .before .before .before .before .before .before .before .read-list .ensures) ∙ ap listPaper (c .before .before .before .before .before .leaf .given .1)) (c .before .before .fill-leaf .ensures)
+    let a = c .before .before .before .before .before .before .before .before .before .before .before .before .before .args in
+    fill-leaf (ordinary (a .image .now)) LEVELS (a .image .now) (a .base) (a .list) levels-left (sym (c .before .before .before .before .before .before .before .before .before .read-list .ensures) ∙ ap listPaper (c .before .before .before .before .before .before .before .leaf .given .1)) (c .before .before .fill-whole .ensures)
+
+enum-known-index : tie.Need-enum-known-index
+enum-known-index c = search needs
+
+enum-known-fault : tie.Need-enum-known-fault
+enum-known-fault c = search needs
+
+fill-requires : tie.Need-fill-requires
+fill-requires c κs = search needs
 
 same-length-2 : tie.Need-same-length-2
 same-length-2 c = search needs
 
 returns-2 : tie.Need-returns-2
 returns-2 c = search needs
-
-returns-3 : tie.Need-returns-3
-returns-3 c =
-    let a = c .before .before .before .before .before .before .args in
-    fill-bad (ordinary (a .image .now)) LEVELS (a .image .now) (a .base) (a .list) levels-left (sym (c .before .before .before .read-list .ensures) ∙ ap listPaper (c .before .fault .given .1))
 
 pub fill-top-spec : {M : Type 1} → statement M
 fill-top-spec =
@@ -57,12 +66,14 @@ fill-top-spec =
     add-position
     read-list-requires
     enum-known-leaf
-    fill-leaf-requires
-    enum-known-index
-    fill-requires
-    enum-known-fault
+    cast-size
+    add-fill-whole
+    cast-fill-whole
+    fill-whole-requires
     same-length
     returns
+    enum-known-index
+    enum-known-fault
+    fill-requires
     same-length-2
-    returns-2
-    returns-3)
+    returns-2)

@@ -1,11 +1,8 @@
 use mathlib.Core.Path.{sym, ap, _∙_}
-use mathlib.Core.Logic.{⊎-elim}
 use native.Mathlib.Omega.{arith}
 use Rattle.sub_key_list.specs.Lists.{listPaper}
 use Rattle.sub_key_walk.specs.Answers.{walkPaper}
 use Rattle.sub_key_walk.proofs.Walks.{lost-few, top-leaf}
-use Rattle.sub_key_walk.proofs.Traces.{leaf-stands}
-use Rattle.sub_key_walk.proofs.Entries.{standing-entries}
 use borrow.Author.Needs.{needs}
 use Rattle.sub_key_walk.proofs.measure_top.Statement.{statement}
 use Rattle.sub_key_walk.proofs.measure_top.Tie as tie
@@ -19,25 +16,12 @@ read-list-requires c κs = search needs
 enum-known-leaf : tie.Need-enum-known-leaf
 enum-known-leaf c = search needs
 
-cast-n : tie.Need-cast-n
-cast-n c = search needs
+cast-if2 : tie.Need-cast-if2
+cast-if2 c = search needs
 
 dropped-few-requires : tie.Need-dropped-few-requires
 dropped-few-requires c κs =
     sym (c .before .before .before .before .before .read-list .ensures) ∙ ap listPaper (c .before .before .before .leaf .given .1)
-
-cast-dropped-wide : tie.Need-cast-dropped-wide
-cast-dropped-wide c = search needs
-
-add-dropped-wide : tie.Need-add-dropped-wide
-add-dropped-wide c =
-    let h = leaf-stands _ _ _ _ _ (sym (c .before .before .before .before .before .before .read-list .ensures) ∙ ap listPaper (c .before .before .before .before .leaf .given .1)) .header in
-    search needs
-
-dropped-wide-requires : tie.Need-dropped-wide-requires
-dropped-wide-requires c κs =
-    let x = leaf-stands _ _ _ _ _ (sym (c .before .before .before .before .before .before .read-list .ensures) ∙ ap listPaper (c .before .before .before .before .leaf .given .1)) in
-    (standing-entries x, (x .other-size, omega arith))
 
 cast-all : tie.Need-cast-all
 cast-all c = search needs
@@ -45,7 +29,7 @@ cast-all c = search needs
 sub-read-so-far : tie.Need-sub-read-so-far
 sub-read-so-far c =
     let a = c .before .before .before .before .before .before .before .before .before .before .args in
-    let k = lost-few (a .image .now) (a .base) _ _ _ (⊎-elim (λ w. w .2 ∙ w .1 .ensures) (λ w. w .3 ∙ w .2 .ensures) (c .before .before .if2 .came)) in
+    let k = lost-few (a .image .now) (a .base) _ _ _ (c .before .dropped-few .ensures) in
     search needs
 
 read-so-far-requires : tie.Need-read-so-far-requires
@@ -54,7 +38,7 @@ read-so-far-requires c κs = search needs
 returns : tie.Need-returns
 returns c =
     let a = c .before .before .before .before .before .before .before .before .before .before .before .args in
-    ap walkPaper (c .read-so-far .ensures) ∙ top-leaf (a .budget) (a .image .now) (a .base) (a .list) _ _ _ (λ z. let y = c .before .before .before .before .before .before .before .before .before .if1 .taken in omega arith) (sym (c .before .before .before .before .before .before .before .before .read-list .ensures) ∙ ap listPaper (c .before .before .before .before .before .before .leaf .given .1)) (⊎-elim (λ w. w .2 ∙ w .1 .ensures) (λ w. w .3 ∙ w .2 .ensures) (c .before .before .before .if2 .came))
+    ap walkPaper (c .read-so-far .ensures) ∙ top-leaf (a .budget) (a .image .now) (a .base) (a .list) _ _ _ (λ z. let y = c .before .before .before .before .before .before .before .before .before .if1 .taken in omega arith) (sym (c .before .before .before .before .before .before .before .before .read-list .ensures) ∙ ap listPaper (c .before .before .before .before .before .before .leaf .given .1)) (c .before .before .dropped-few .ensures)
 
 enum-known-index : tie.Need-enum-known-index
 enum-known-index c = search needs
@@ -76,11 +60,8 @@ measure-top-spec =
     add-position
     read-list-requires
     enum-known-leaf
-    cast-n
+    cast-if2
     dropped-few-requires
-    cast-dropped-wide
-    add-dropped-wide
-    dropped-wide-requires
     cast-all
     sub-read-so-far
     read-so-far-requires

@@ -3,3 +3,5 @@ pub mod Cases
 pub mod Leaves
 pub mod Papers
 pub mod SizeWord
+pub mod Strict
+pub mod Profiles

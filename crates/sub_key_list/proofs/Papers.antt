@@ -2,10 +2,12 @@
 -- nothing.
 use mathlib.Core.Path.{_≡_, ap, sym, _∙_}
 use mathlib.Core.List.{List}
+use mathlib.Core.Bool.{Bool}
 use Prim.Native.Nat.{ℕ}
 use native.Mathlib.Omega.{arith}
 use Rattle.words.proofs.Papers.{success-refused, same-success, same-told, same-refusal}
 use Rattle.sub_key_list.specs.Lists.{leaf, index, listPaper, listAt}
+use Rattle.sub_key_list.specs.Strict.{strictAt}
 use Rattle.sub_key_list.specs.declared.LeafList.{LeafList}
 use Rattle.sub_key_list.specs.declared.IndexList.{IndexList}
 use Rattle.sub_key_list.specs.declared.SubKeyList.{SubKeyList}
@@ -40,3 +42,7 @@ paper-injective (Refused f) (Refused g) e = ap Refused (same-refusal (same-told 
 -- two answers allowed for one image and position
 pub list-determined : (s : List ℕ) (p : ℕ) (a b : SubKeyList) → listPaper a ≡ listAt s p → listPaper b ≡ listAt s p → a ≡ b
 list-determined s p a b x y = paper-injective a b (x ∙ sym y)
+
+pub strict-determined : (s : List ℕ) (minor : ℕ) (named : Bool) (p : ℕ) (a b : SubKeyList) → listPaper a ≡ strictAt s minor named p → listPaper b ≡ strictAt s minor named p
+    → a ≡ b
+strict-determined s minor named p a b x y = paper-injective a b (x ∙ sym y)

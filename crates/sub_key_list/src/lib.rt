@@ -1,11 +1,14 @@
 // One subkey list: what stands at a position, taken apart by kind. Every function takes any image and any position.
+use cell::CellAnswer;
 use words::Refusal;
+use words::Verdict;
 ghost use mathlib.Core.Path.{_≡_};
 ghost use lib.ListN.{length};
 ghost use Prim.Native.Nat.{_+_, _-_, _≤_};
 ghost use Rattle.words.specs.Words.{word16};
-ghost use Rattle.words.specs.Paper.{refused, by};
+ghost use Rattle.words.specs.Paper.{refused, by, andThen, verdictPaper};
 ghost use Rattle.sub_key_list.specs.Lists.{listPaper, listAt, entrySize};
+ghost use Rattle.sub_key_list.specs.Strict.{leastMinor, permitted, riUnderRi, ownCell, strictChecks, strictAt};
 
 // The kinds of list, each by the word of its two letters.
 const LF: u16 = 0x666c;
@@ -109,4 +112,99 @@ pub fn read_list(image: &[u8], position: usize) -> SubKeyList
         entry_size: size,
         count,
     })
+}
+
+// The least minor version at which a kind of list is permitted.
+fn least_minor(kind: u16) -> u32
+    ensures { λ r. ⌜ r ≡ leastMinor kind ⌝ }
+{
+    if kind == LF {
+        return 3;
+    }
+    if kind == LH {
+        return 5;
+    }
+    0
+}
+
+// Whether a minor version permits a kind of list.
+fn permits(minor: u32, kind: u16) -> bool
+    ensures { λ r. ⌜ r ≡ permitted kind minor ⌝ }
+{
+    let least = least_minor(kind);
+    least <= minor
+}
+
+// Whether this is an `ri` list that an `ri` list names.
+fn ri_under_ri(named: bool, kind: u16) -> bool
+    ensures { λ r. ⌜ r ≡ riUnderRi named kind ⌝ }
+{
+    if named { kind == RI } else { false }
+}
+
+// Whether the first bytes from a position on lie in an allocated cell of their own.
+fn own_cell(image: &[u8], position: usize, needed: usize) -> bool
+    requires { ⌜ position + 4 ≤ length (now image) ⌝ }
+    ensures { λ r. ⌜ r ≡ ownCell (now (image .entry)) position needed ⌝ }
+{
+    match cell::cell_at(image, position, needed) {
+        CellAnswer::Held(size) => size.allocated,
+        CellAnswer::TooSmall(size) => false,
+        CellAnswer::Refused(fault) => false,
+    }
+}
+
+// What the strict profile asks of a list whose header is there, beyond that it can be read. `named` says whether an `ri` list names
+// it.
+fn strict_checks(image: &[u8], position: usize, minor: u32, named: bool) -> Verdict
+    requires { ⌜ position + 8 ≤ length (now image) ⌝ }
+    ensures { λ r. ⌜ verdictPaper r ≡ strictChecks (now (image .entry)) minor named position ⌝ }
+{
+    let kind = half(image, position + 4);
+    if !permits(minor, kind) {
+        return Verdict::Refused(Refusal {
+            number: words::NOT_PERMITTED,
+            position: 0,
+        });
+    }
+    if ri_under_ri(named, kind) {
+        return Verdict::Refused(Refusal {
+            number: words::NOT_PERMITTED,
+            position: 0,
+        });
+    }
+    let count = half(image, position + 6);
+    let size = entry_size(kind);
+    let entries = (size as usize) * (count as usize);
+    if !own_cell(image, position, 8 + entries) {
+        return Verdict::Refused(Refusal {
+            number: words::BAD_SIZE,
+            position,
+        });
+    }
+    Verdict::Whole
+}
+
+// What the strict profile makes of a list that is read at a position.
+fn strict_of(image: &[u8], position: usize, minor: u32, named: bool, list: SubKeyList) -> SubKeyList
+    requires { ⌜ position + 8 ≤ length (now image) ⌝ }
+    ensures { λ r. ⌜ listPaper r ≡ andThen (strictChecks (now (image .entry)) minor named position) (listPaper list) ⌝ }
+{
+    match strict_checks(image, position, minor, named) {
+        Verdict::Whole => list,
+        Verdict::Refused(fault) => SubKeyList::Refused(fault),
+    }
+}
+
+// The list at a position, read strictly: as `read_list` reads it, of a kind that the minor version permits, no `ri` list that an `ri`
+// list names, and inside an allocated cell of its own. `named` says whether an `ri` list names it.
+pub fn strict_list(image: &[u8], position: usize, minor: u32, named: bool) -> SubKeyList
+    ensures { λ r. ⌜ listPaper r ≡ strictAt (now (image .entry)) minor named position ⌝ }
+{
+    let list = read_list(image, position);
+    match list {
+        SubKeyList::Refused(fault) => list,
+        SubKeyList::Leaf(leaf) => strict_of(image, position, minor, named, list),
+        SubKeyList::Index(index) => strict_of(image, position, minor, named, list),
+    }
 }

@@ -62,8 +62,12 @@ PAST-END = 18
 abbrev pub ALREADY-IN : ℕ
 ALREADY-IN = 19
 
+-- order 9: "20 NOT PERMITTED"
+abbrev pub NOT-PERMITTED : ℕ
+NOT-PERMITTED = 20
+
 -- the table whole, in its order
 abbrev pub numbers : List ℕ
 numbers =
     SHORT ∷ OUTSIDE ∷ BAD-SIZE ∷ BAD-SIGN ∷ BAD-NAME ∷ NO-LIST ∷ TOO-MANY ∷ CUT-SHORT ∷ NO-ROOM ∷ BAD-BIN ∷ BAD-CELL ∷ TOO-LARGE ∷ BAD-BUDGET
-    ∷ TOO-DEEP ∷ OUT-OF-STEPS ∷ NOT-FOUND ∷ BAD-DATA ∷ PAST-END ∷ ALREADY-IN ∷ []
+    ∷ TOO-DEEP ∷ OUT-OF-STEPS ∷ NOT-FOUND ∷ BAD-DATA ∷ PAST-END ∷ ALREADY-IN ∷ NOT-PERMITTED ∷ []

@@ -47,8 +47,10 @@ pub const PAST_END: u32 = 18;
 
 pub const ALREADY_IN: u32 = 19;
 
+pub const NOT_PERMITTED: u32 = 20;
+
 // The table whole: each constant is the number that the definitions have under its name.
-fn refusal_numbers() -> [u32; 19]
+fn refusal_numbers() -> [u32; 20]
     ensures { λ r. ⌜ r ≡ numbers ⌝ }
 {
     [
@@ -71,6 +73,7 @@ fn refusal_numbers() -> [u32; 19]
         BAD_DATA,
         PAST_END,
         ALREADY_IN,
+        NOT_PERMITTED,
     ]
 }
 

@@ -10,6 +10,7 @@ ghost use Rattle.cell_key_node.specs.Records.{sizeOf, cellFault, faultAt
 ghost use Rattle.cell_key_node.specs.Key.{keyOf, keyAt, keyPaper, keyName, keyNameAt, keySlack, keySlackAt};
 ghost use Rattle.cell_key_node.specs.ValueList.{placeOf, placePaper, upTo, entryOf, ListAnswered};
 ghost use Rattle.sub_key_walk.specs.Answers.{measured, walkPaper, WalkAnswered};
+ghost use Rattle.sub_key_walk.specs.Strict.{strictMeasured, StrictAnswered};
 use sub_key_walk::COUNT_LIMIT;
 use sub_key_walk::WalkAnswer;
 use words::Refusal;
@@ -329,4 +330,36 @@ pub fn sub_key_counts_of(image: &[u8], base: u32, key: KeyNode, budget: u32) -> 
     let subkeys = key.number_of_sub_keys;
     let first = key.sub_keys_list_offset_relative;
     sub_key_walk::sub_key_counts(image, base, subkeys, first, budget)
+}
+
+// The subkeys of a key record with each list read strictly: only what the minor version permits, each list inside an allocated cell of
+// its own, and no `ri` list named by an `ri` list.
+pub fn strict_sub_keys_of(
+    image: &[u8],
+    base: u32,
+    key: KeyNode,
+    budget: u32,
+    minor: u32,
+    out: &mut [u32],
+) -> WalkAnswer
+    ensures { λ r. ⌜ StrictAnswered (now (image .entry)) base (key .«number_of_sub_keys») (key .«sub_keys_list_offset_relative») budget minor (now (out .entry)) r (now (out .exit)) ⌝ }
+{
+    let number = key.number_of_sub_keys;
+    let start = key.sub_keys_list_offset_relative;
+    sub_key_walk::strict_sub_keys(image, base, number, start, budget, minor, out)
+}
+
+// What the strict walk counts, with no regard to room. Nothing is written.
+pub fn strict_sub_key_counts_of(
+    image: &[u8],
+    base: u32,
+    key: KeyNode,
+    budget: u32,
+    minor: u32,
+) -> WalkAnswer
+    ensures { λ r. ⌜ walkPaper r ≡ strictMeasured (now (image .entry)) base (key .«number_of_sub_keys») (key .«sub_keys_list_offset_relative») budget minor ⌝ }
+{
+    let keys = key.number_of_sub_keys;
+    let top = key.sub_keys_list_offset_relative;
+    sub_key_walk::strict_sub_key_counts(image, base, keys, top, budget, minor)
 }

@@ -6,12 +6,12 @@ use Rattle.sub_key_list.specs.Lists.{entrySize, ofKind, listAt}
 use Rattle.sub_key_list.specs.Leaves.{keep, leafKept, dropOne, leafDropped}
 use Rattle.sub_key_walk.specs.Trace.{each, below, trace, keptIn, keptOf, listsIn, entriesIn, droppedIn}
 use Rattle.sub_key_walk.specs.Judge.{counted, inBudget, one, after, judge}
-use Rattle.sub_key_walk.specs.Answers.{measured}
+use Rattle.sub_key_walk.specs.Answers.{fromRecord}
 use Rattle.key_totals.specs.Table.{suits, firstOf, laid, addOf, replaceOf, removeOf, numberOf}
 use Rattle.key_totals.specs.Examples.{Examples}
 
 pub examples : Examples
-unfolding little entrySize ofKind listAt keep leafKept dropOne leafDropped each below trace keptIn keptOf listsIn entriesIn droppedIn counted inBudget one after judge onSuccess measured suits firstOf laid addOf replaceOf removeOf numberOf
+unfolding little entrySize ofKind listAt keep leafKept dropOne leafDropped each below trace keptIn keptOf listsIn entriesIn droppedIn counted inBudget one after judge onSuccess fromRecord suits firstOf laid addOf replaceOf removeOf numberOf
 examples = record {
   adding = refl;
   added = refl;

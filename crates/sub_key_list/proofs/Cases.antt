@@ -1,5 +1,6 @@
 -- The list at a position, case by case, each from the facts that a reader tests. Assumes nothing.
-use mathlib.Core.Path.{_≡_}
+use mathlib.Core.Path.{_≡_, refl, subst}
+use mathlib.Core.Bool.{Bool, true, false, cond}
 use mathlib.Core.List.{List}
 use Prim.Native.Nat.{ℕ, _*_, _-_, _≤_, _<_}
 use native.Mathlib.Nat.{mul-le-mul}
@@ -7,10 +8,11 @@ use native.Mathlib.Omega.{arith}
 use lib.Dec.{ltb, eqb}
 use lib.ListN.{length}
 use borrow.Author.Tests.{eq-eqb, ne-eqb, lt-ltb, le-ltb}
-use Rattle.words.specs.Refusals.{OUTSIDE, BAD-SIGN, CUT-SHORT}
-use Rattle.words.specs.Paper.{success, refused, by}
-use Rattle.words.proofs.Plain.{Plainly, plainly-success, plainly-by, plainly-cond}
-use Rattle.sub_key_list.specs.Lists.{RI, entrySize, leaf, index, ofKind, kindAt, countAt, listAt}
+use Rattle.words.specs.Refusals.{OUTSIDE, BAD-SIGN, CUT-SHORT, NO-ROOM}
+use Rattle.words.specs.Paper.{Told, Paper, success, refused, by}
+use Rattle.words.proofs.Papers.{success-refused, same-told}
+use Rattle.words.proofs.Plain.{Plain, Plainly}
+use Rattle.sub_key_list.specs.Lists.{RI, entrySize, Listed, leaf, index, ofKind, kindAt, countAt, listAt}
 
 -- the bytes of all entries are few
 pub entries-fit : (size count : ℕ) → size < 256 → count < 65536 → size * count ≤ 16711425
@@ -47,12 +49,23 @@ module _ (s : List ℕ) (p : ℕ) where
           unfolding listAt ofKind
           list-leaf i = simp (le-ltb _ _ h, ← q, le-ltb _ _ k, ← e, ← f, ← g, ne-eqb _ _ z, le-ltb _ _ l, ne-eqb _ _ i)
 
--- no refusal of a list is NO ROOM
-pub list-plain : (s : List ℕ) (p : ℕ) → Plainly (listAt s p)
+-- what holds of each of its refusals holds of whatever a list is refused by
+cond-refused : (P : Told → Type 0) (b : Bool) {u t : Told} {a : Paper Listed} → P u → (a ≡ refused t → P t) → cond b (refused u) a ≡ refused t → P t
+cond-refused P true h g e = subst P (same-told e) h
+cond-refused P false h g e = g e
+
+pub list-every : (P : Told → Type 0) (s : List ℕ) (p : ℕ) → P (by OUTSIDE p) → P (by CUT-SHORT p) → P (by BAD-SIGN p) → (t : Told) → listAt s p ≡ refused t → P t
 unfolding listAt
-list-plain s p =
-    plainly-cond (ltb (length s) p) (plainly-by OUTSIDE p (omega arith))
-    (plainly-cond (ltb (length s - p) 8) (plainly-by CUT-SHORT p (omega arith))
-    (plainly-cond (eqb (entrySize (kindAt s p)) 0) (plainly-by BAD-SIGN p (omega arith))
-    (plainly-cond (ltb (length s - p - 8) (entrySize (kindAt s p) * countAt s p)) (plainly-by CUT-SHORT p (omega arith))
-    (plainly-success (ofKind (kindAt s p) (countAt s p))))))
+list-every P s p o c b t =
+    cond-refused P (ltb (length s) p) o
+    (cond-refused P (ltb (length s - p) 8) c
+    (cond-refused P (eqb (entrySize (kindAt s p)) 0) b
+    (cond-refused P (ltb (length s - p - 8) (entrySize (kindAt s p) * countAt s p)) c
+    (λ e. absurd (success-refused e)))))
+
+-- so none is NO ROOM
+pub list-plain : (s : List ℕ) (p : ℕ) → Plainly (listAt s p)
+list-plain s p = list-every Plain s p (plain OUTSIDE (omega arith)) (plain CUT-SHORT (omega arith)) (plain BAD-SIGN (omega arith))
+  where
+    plain : (n : ℕ) → (n ≡ NO-ROOM → ⊥) → Plain (by n p)
+    plain n h = record { other = h; places = refl; entries = refl; dropped = refl }

@@ -126,7 +126,7 @@ module _ (s : List ℕ) (minor : ℕ) (named : Bool) (p : ℕ) where
       go (success l) e (is-added d q n) = added d (strict-read s minor named p e ∙ ap (λ (v : Paper (Unit {0})). andThen v (success l)) q)
 
   -- what strict accepts, the ordinary reading gives, and all is met; and the other way round
-  accepted : (l : Listed) → strictAt s minor named p ≡ success l → (listAt s p ≡ success l) × Met s minor named p
+  pub accepted : (l : Listed) → strictAt s minor named p ≡ success l → (listAt s p ≡ success l) × Met s minor named p
   unfolding andThen
   accepted l e = go (listAt s p) refl asked
     where

@@ -15,17 +15,17 @@ use Rattle.words.specs.Buffers.{inRoom}
 use Rattle.words.specs.declared.Refusal.{Refusal}
 use Rattle.words.proofs.Papers.{success-refused, same-success}
 use Rattle.words.proofs.Buffers.{room-full, room-fits, room-refused, answered-refused, answered-success}
-use Rattle.sub_key_list.specs.Lists.{listAt, listPaper}
+use Rattle.sub_key_list.specs.Lists.{Listed, listAt, listPaper}
 use Rattle.sub_key_list.specs.Leaves.{leafOf, leafKept, onlyLeaf}
 use Rattle.sub_key_list.specs.declared.LeafList.{LeafList}
 use Rattle.sub_key_list.specs.declared.IndexList.{IndexList}
 use Rattle.sub_key_list.specs.declared.SubKeyList.the-variants as found
 use Rattle.sub_key_walk.specs.Trace.{Event, walkFrom, keptOf, total}
 use Rattle.sub_key_walk.specs.Judge.{fault, judge}
-use Rattle.sub_key_walk.specs.Answers.{BUDGET-LIMIT, COUNT-LIMIT, none, measured, fullOf, answerOf, reachedBy, keptBy, walkTold, walkPaper, WalkAnswered}
-use Rattle.sub_key_walk.specs.Leaf.{readOf, fullLeaf, leafAnswerOf, keptFrom, LeafAnswered}
+use Rattle.sub_key_walk.specs.Answers.{BUDGET-LIMIT, COUNT-LIMIT, none, fromRecord, measured, fullOf, answerOf, reachedFor, reachedBy, keptBy, walkTold, walkPaper, WalkAnswered}
+use Rattle.sub_key_walk.specs.Leaf.{readOf, fullLeaf, leafAnswerOf, keptFrom, LeafAnsweredAs, LeafAnswered}
 use Rattle.sub_key_walk.specs.Free.{countsOf}
-use Rattle.sub_key_walk.specs.Walk.{Whole, Filled, Roomy}
+use Rattle.sub_key_walk.specs.Walk.{Whole, Filled, Walk, Roomy}
 use Rattle.sub_key_walk.specs.declared.Counts.{Counts}
 use Rattle.sub_key_walk.specs.declared.WalkRefusal.{WalkRefusal}
 use Rattle.sub_key_walk.specs.declared.WalkAnswer.{WalkAnswer}
@@ -50,50 +50,53 @@ pub record Started (count budget : ℕ) : Type 0 where
   pub few : count ≤ COUNT-LIMIT
   pub some : count ≡ 0 → ⊥
 
-module _ (s : List ℕ) (base count list budget : ℕ) where
-  pub measured-budget : BUDGET-LIMIT < budget → refused (by BAD-BUDGET 0) ≡ measured s base count list budget
-  unfolding measured
+module _ (count budget : ℕ) (es : List Event) where
+  pub measured-budget : BUDGET-LIMIT < budget → refused (by BAD-BUDGET 0) ≡ fromRecord count budget es
+  unfolding fromRecord
   measured-budget h = rw (lt-ltb BUDGET-LIMIT budget h)
 
-  pub measured-many : budget ≤ BUDGET-LIMIT → COUNT-LIMIT < count → refused (by TOO-MANY 0) ≡ measured s base count list budget
-  unfolding measured
+  pub measured-many : budget ≤ BUDGET-LIMIT → COUNT-LIMIT < count → refused (by TOO-MANY 0) ≡ fromRecord count budget es
+  unfolding fromRecord
   measured-many b h = rw (le-ltb BUDGET-LIMIT budget b, lt-ltb COUNT-LIMIT count h)
 
-  pub measured-none : budget ≤ BUDGET-LIMIT → count ≤ COUNT-LIMIT → count ≡ 0 → success none ≡ measured s base count list budget
-  unfolding measured
+  pub measured-none : budget ≤ BUDGET-LIMIT → count ≤ COUNT-LIMIT → count ≡ 0 → success none ≡ fromRecord count budget es
+  unfolding fromRecord
   measured-none b m h = rw (le-ltb BUDGET-LIMIT budget b, le-ltb COUNT-LIMIT count m, eq-eqb count 0 h)
 
-  pub measured-walk : Started count budget → measured s base count list budget ≡ judge budget none (walkFrom s base list)
-  unfolding measured
+  pub measured-walk : Started count budget → fromRecord count budget es ≡ judge budget none es
+  unfolding fromRecord
   measured-walk d = rw (le-ltb BUDGET-LIMIT budget (d .small), le-ltb COUNT-LIMIT count (d .few), ne-eqb count 0 (d .some))
 
--- the lists reached from a key record: those of the walk, and none where the count is 0
-pub reached-walk : (s : List ℕ) (base count list : ℕ) → (count ≡ 0 → ⊥) → reachedBy s base count list ≡ walkFrom s base list
-unfolding reachedBy
-reached-walk s base count list h = rw (ne-eqb count 0 h)
+  pub measured-by : Started count budget → {r : WalkAnswer} → Walk budget none es r → walkPaper r ≡ fromRecord count budget es
+  measured-by d w = w .answer ∙ sym (measured-walk d)
 
-reached-none : (s : List ℕ) (base count list : ℕ) → count ≡ 0 → reachedBy s base count list ≡ []
-unfolding reachedBy
-reached-none s base count list h = rw (eq-eqb count 0 h)
+-- the lists reached from a key record: those of the walk, and none where the count is 0
+pub reached-walk : (count : ℕ) (es : List Event) → (count ≡ 0 → ⊥) → reachedFor count es ≡ es
+unfolding reachedFor
+reached-walk count es h = rw (ne-eqb count 0 h)
+
+reached-none : (count : ℕ) (es : List Event) → count ≡ 0 → reachedFor count es ≡ []
+unfolding reachedFor
+reached-none count es h = rw (eq-eqb count 0 h)
 
 -- a walk that is measured counts all of them
-pub measured-counts : (s : List ℕ) (base count list budget : ℕ) (t : Counts) → measured s base count list budget ≡ success t → t ≡ countsOf (reachedBy s base count list)
-unfolding measured reachedBy keptOf total
-measured-counts s base count list budget t q = go (ltb BUDGET-LIMIT budget) (ltb COUNT-LIMIT count) (eqb count 0) refl refl refl
+pub measured-counts : (count budget : ℕ) (es : List Event) (t : Counts) → fromRecord count budget es ≡ success t → t ≡ countsOf (reachedFor count es)
+unfolding fromRecord reachedFor keptOf total
+measured-counts count budget es t q = go (ltb BUDGET-LIMIT budget) (ltb COUNT-LIMIT count) (eqb count 0) refl refl refl
   where
-    go : (a b c : Bool) → ltb BUDGET-LIMIT budget ≡ a → ltb COUNT-LIMIT count ≡ b → eqb count 0 ≡ c → t ≡ countsOf (reachedBy s base count list)
+    go : (a b c : Bool) → ltb BUDGET-LIMIT budget ≡ a → ltb COUNT-LIMIT count ≡ b → eqb count 0 ≡ c → t ≡ countsOf (reachedFor count es)
     go true b c x y z = absurd (success-refused (sym (rw x at q)))
     go false true c x y z = absurd (success-refused (sym (rw (x, y) at q)))
     go false false true x y z = rw z (sym (same-success (rw (x, y, z) at q)))
-    go false false false x y z = rw z (judge-counts budget (walkFrom s base list) t (rw (x, y, z) at q))
+    go false false false x y z = rw z (judge-counts budget es t (rw (x, y, z) at q))
 
 -- where it keeps something, it is no walk from a count of 0
 kept-some : (s : List ℕ) (base count list : ℕ) → 0 < length (keptBy s base count list) → reachedBy s base count list ≡ walkFrom s base list
 unfolding keptOf
-kept-some s base count list h = reached-walk s base count list some
+kept-some s base count list h = reached-walk count (walkFrom s base list) some
   where
     some : count ≡ 0 → ⊥
-    some z = let e = ap (λ (es : List Event). length (keptOf es)) (reached-none s base count list z) in omega arith
+    some z = let e = ap (λ (es : List Event). length (keptOf es)) (reached-none count (walkFrom s base list) z) in omega arith
 
 -- ---- and with it
 
@@ -110,7 +113,7 @@ module _ (s : List ℕ) (base count list budget : ℕ) (old : List ℕ) (w : Wal
 
     -- what is counted, of the lists reached
     kept-number : t .kept ≡ length (keptBy s base count list)
-    kept-number = ap (λ (c : Counts). c .kept) (measured-counts s base count list budget t (sym k ∙ ap walkPaper q))
+    kept-number = ap (λ (c : Counts). c .kept) (measured-counts count budget (walkFrom s base list) t (sym k ∙ ap walkPaper q))
 
     module _ (h : t .kept ≤ length old) where
       fits : answerOf s base count list budget (length old) ≡ success t
@@ -126,7 +129,7 @@ module _ (s : List ℕ) (base count list budget : ℕ) (old : List ℕ) (w : Wal
         walked = let e = kept-number in kept-some s base count list (omega arith)
 
         counted : t ≡ countsOf (walkFrom s base list)
-        counted = measured-counts s base count list budget t (sym k ∙ ap walkPaper q) ∙ ap countsOf walked
+        counted = measured-counts count budget (walkFrom s base list) t (sym k ∙ ap walkPaper q) ∙ ap countsOf walked
 
         pub walk-roomy : {whole : Bool} → whole ≡ eqb (t .dropped) 0 → Roomy (walkFrom s base list) whole old 0
         walk-roomy z =
@@ -142,16 +145,19 @@ module _ (s : List ℕ) (base count list budget : ℕ) (old : List ℕ) (w : Wal
 
 -- ---- one leaf list
 
-module _ (s : List ℕ) (base p : ℕ) (old : List ℕ) where
-  pub leaf-refused : {g : Refusal} → listPaper (found.Refused g) ≡ listAt s p → {f : WalkRefusal} → walkTold f ≡ fault (g .number) (g .position) 0
-      → LeafAnswered s base p old (leaf.Refused f) old
+-- whichever way the list is read
+module _ (s : List ℕ) (base p : ℕ) (old : List ℕ) {a : Paper Listed} where
+  pub leaf-refused : {g : Refusal} → listPaper (found.Refused g) ≡ a → {f : WalkRefusal} → walkTold f ≡ fault (g .number) (g .position) 0
+      → LeafAnsweredAs (onlyLeaf s base p a) old (leaf.Refused f) old
   unfolding inRoom onSuccess onlyLeaf
   leaf-refused e q = answered-refused (ap refused q) (rw (← e))
 
-  pub leaf-index : {l : IndexList} → listPaper (found.Index l) ≡ listAt s p → {f : WalkRefusal} → walkTold f ≡ fault BAD-SIGN p 0 → LeafAnswered s base p old (leaf.Refused f) old
+  pub leaf-index : {l : IndexList} → listPaper (found.Index l) ≡ a → {f : WalkRefusal} → walkTold f ≡ fault BAD-SIGN p 0
+      → LeafAnsweredAs (onlyLeaf s base p a) old (leaf.Refused f) old
   unfolding inRoom onSuccess onlyLeaf
   leaf-index e q = answered-refused (ap refused q) (rw (← e))
 
+module _ (s : List ℕ) (base p : ℕ) (old : List ℕ) where
   module _ {l : LeafList} (e : listPaper (found.Leaf l) ≡ listAt s p) {t : LeafRead} (d : t ≡ readOf (leafOf s base p (l .«entry_size») (l .count))) where
     abbrev row : List ℕ
     row = leafKept s base (l .«entry_size») (l .count) (p + 8)

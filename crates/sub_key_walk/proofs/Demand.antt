@@ -13,7 +13,7 @@ use Rattle.words.proofs.Papers.{same-success}
 use Rattle.words.proofs.Buffers.{room-fits, room-success, untouched, filled}
 use Rattle.sub_key_walk.specs.Trace.{Event, walkFrom, keptOf, listsOf, entriesOf}
 use Rattle.sub_key_walk.specs.Judge.{judge}
-use Rattle.sub_key_walk.specs.Answers.{BUDGET-LIMIT, COUNT-LIMIT, none, measured, fullOf, answerOf, walkPaper, WalkAnswered}
+use Rattle.sub_key_walk.specs.Answers.{BUDGET-LIMIT, COUNT-LIMIT, none, fromRecord, measured, fullOf, answerOf, walkPaper, WalkAnswered}
 use Rattle.sub_key_walk.specs.Free.{All, Met, countsOf, Full, front, listsRead, listsBy, Succeeds}
 use Rattle.sub_key_walk.specs.Demand.{Demand3}
 use Rattle.sub_key_walk.specs.declared.Counts.{Counts}
@@ -42,7 +42,7 @@ room-lists room (refused t) = refl
 -- ---- "Its reported number of lists is the definition's, refused or not": for every input
 
 pub lists-measured : (s : List ℕ) (base count list budget : ℕ) → listsBy (measured s base count list budget) ≡ listsRead s base count list budget
-unfolding measured listsRead
+unfolding fromRecord listsRead
 lists-measured s base count list budget = go (ltb BUDGET-LIMIT budget) (ltb COUNT-LIMIT count) (eqb count 0) refl refl refl
   where
     go : (a b c : Bool) → ltb BUDGET-LIMIT budget ≡ a → ltb COUNT-LIMIT count ≡ b → eqb count 0 ≡ c
@@ -68,7 +68,7 @@ module _ (s : List ℕ) (base count list budget room : ℕ) (d : Started count b
   succeeds-if m =
       let b : listsOf reached ≤ budget = m .within in
       ap (inRoom fullOf room)
-      (measured-walk s base count list budget d ∙ judge-all budget none reached (fine-good s base 8 list (m .fine)) (omega arith) ∙ ap success (tally-counts reached))
+      (measured-walk count budget reached d ∙ judge-all budget none reached (fine-good s base 8 list (m .fine)) (omega arith) ∙ ap success (tally-counts reached))
       ∙ room-fits fullOf room (countsOf reached) (m .fits)
 
   -- and only if, again with their counts
@@ -79,7 +79,7 @@ module _ (s : List ℕ) (base count list budget room : ℕ) (d : Started count b
 
   pub succeeds-only : (t : Counts) → answerOf s base count list budget room ≡ success t → Why t
   succeeds-only t q =
-      let w = room-success fullOf room (judge budget none reached) t (ap (inRoom fullOf room) (sym (measured-walk s base count list budget d)) ∙ q) in
+      let w = room-success fullOf room (judge budget none reached) t (ap (inRoom fullOf room) (sym (measured-walk count budget reached d)) ∙ q) in
       let g = all-judge budget none reached t (omega arith) (w .0) in
       let b : 0 + listsOf reached ≤ budget = g .1 in
       let c : t ≡ countsOf reached = same-success (sym (w .0) ∙ judge-all budget none reached (g .0) (g .1)) ∙ tally-counts reached in
@@ -120,7 +120,7 @@ demand-3 s base count list budget old r new x some few small = record {
   reported = answer-lists s base count list budget old r new x;
   few = λ y f. rw (read-paper (y .is)) (lists-few s base count list budget (length old) d (y .counts) (answer y) f);
   counts = λ t q. why (record { counts = t; is = q }) .counts;
-  filled = λ y. filled x (read-paper (y .is)) ∙ ap (λ (es : List Event). keptOf es ++ drop (length (keptOf es)) old) (reached-walk s base count list (d .some));
+  filled = λ y. filled x (read-paper (y .is)) ∙ ap (λ (es : List Event). keptOf es ++ drop (length (keptOf es)) old) (reached-walk count (walkFrom s base list) (d .some));
   untouched = λ f q. refusal-untouched s base count list budget old r new x f q;
 }
   where

@@ -6,22 +6,22 @@ use mathlib.Core.List.{List, [], _∷_}
 use mathlib.Core.Bool.{Bool, true, false, cond}
 use Prim.Native.Nat.{ℕ, _+_}
 use native.Mathlib.Omega.{arith}
-use lib.Dec.{ltb, eqb}
+use lib.Dec.{eqb}
 use lib.ListN.{length, length-append}
 use Rattle.words.specs.Refusals.{NO-ROOM, BAD-SIGN, TOO-MANY, BAD-BUDGET, TOO-DEEP, OUT-OF-STEPS}
 use Rattle.words.specs.Paper.{Told, Paper, success, refused, onSuccess}
 use Rattle.words.specs.Buffers.{inRoom}
 use Rattle.words.proofs.Papers.{refused-success, same-success, on-success-of}
-use Rattle.words.proofs.Plain.{Plainly, plainly-success, plainly-refused, plainly-by, plainly-cond, plainly-on}
+use Rattle.words.proofs.Plain.{Plain, Plainly, plainly-success, plainly-refused, plainly-by, plainly-on}
 use Rattle.words.proofs.Buffers.{room-success, full-of, other-of}
 use Rattle.sub_key_list.specs.Lists.{Listed, listAt}
 use Rattle.sub_key_list.specs.Lists as lists
 use Rattle.sub_key_list.specs.Leaves.{Leaf, leafDropped, onlyLeaf, leafAt}
 use Rattle.sub_key_list.proofs.Cases.{list-plain}
 use Rattle.sub_key_list.proofs.Leaves.{leaf-all}
-use Rattle.sub_key_walk.specs.Trace.{Event, deep, bad, index, leaf, trace, ordinary, walkFrom, keptIn, keptOf, entriesIn, entriesOf, droppedIn, droppedOf, total}
-use Rattle.sub_key_walk.specs.Judge.{fault, inBudget, one, after, judge}
-use Rattle.sub_key_walk.specs.Answers.{BUDGET-LIMIT, COUNT-LIMIT, none, measured, fullOf, reachedBy, walkPaper, WalkAnswered}
+use Rattle.sub_key_walk.specs.Trace.{Event, deep, trace, ordinary, walkFrom, keptIn, keptOf, entriesIn, entriesOf, droppedIn, droppedOf, total}
+use Rattle.sub_key_walk.specs.Judge.{fault}
+use Rattle.sub_key_walk.specs.Answers.{measured, fullOf, reachedFor, reachedBy, walkPaper, WalkAnswered}
 use Rattle.sub_key_walk.specs.Leaf.{readOf, fullLeaf, LeafAnswered}
 use Rattle.sub_key_walk.specs.Free.{All}
 use Rattle.sub_key_walk.specs.Dropped.{droppedBy, droppedFrom, Sums, Drops, WalkDrops, LeafDrops}
@@ -31,6 +31,7 @@ use Rattle.sub_key_walk.specs.declared.WalkAnswer.{WalkAnswer}
 use Rattle.sub_key_walk.specs.declared.LeafAnswer.{LeafAnswer}
 use Rattle.sub_key_walk.proofs.Traces.{eventOf, trace-all}
 use Rattle.sub_key_walk.proofs.Answers.{measured-counts}
+use Rattle.sub_key_walk.proofs.Refusals.{Sound, record-every}
 
 -- ---- the lists reached: every entry is kept or dropped
 
@@ -60,7 +61,7 @@ trace-sum s base levels o = all-sum _ (trace-all KeptOrDropped s base deep-drops
 
 -- and of those that are reached from a key record
 reached-sum : (s : List ℕ) (base count list : ℕ) → let es = reachedBy s base count list in entriesOf es ≡ length (keptOf es) + droppedOf es
-unfolding reachedBy keptOf total
+unfolding reachedFor keptOf total
 reached-sum s base count list = go (eqb count 0)
   where
     go : (b : Bool) → let es = cond b [] (walkFrom s base list) in entriesOf es ≡ length (keptOf es) + droppedOf es
@@ -69,48 +70,18 @@ reached-sum s base count list = go (eqb count 0)
 
 -- ---- no refusal of a walk is NO ROOM but the one for want of places
 
-abbrev Sound : Event → Type 0
-Sound (deep p) = Unit {0}
-Sound (bad n p) = n ≡ NO-ROOM → ⊥
-Sound (index p n) = Unit {0}
-Sound (leaf p l) = Unit {0}
+plain-fault : (n p l : ℕ) → (n ≡ NO-ROOM → ⊥) → Plain (fault n p l)
+plain-fault n p l h = record { other = h; places = refl; entries = refl; dropped = refl }
 
-sound-at : (s : List ℕ) (base p : ℕ) (h : Paper Listed) → listAt s p ≡ h → Sound (eventOf s base p h)
+sound-at : (s : List ℕ) (base p : ℕ) (h : Paper Listed) → listAt s p ≡ h → Sound Plain (eventOf s base p h)
 sound-at s base p (success (lists.leaf k z n)) e = tt
 sound-at s base p (success (lists.index n)) e = tt
-sound-at s base p (refused t) e = list-plain s p t e .other
-
-plainly-fault : (n p l : ℕ) → (n ≡ NO-ROOM → ⊥) → Plainly {A = Counts} (refused (fault n p l))
-plainly-fault n p l h = plainly-refused (record { other = h; places = refl; entries = refl; dropped = refl })
-
-plainly-after : (a : Paper Counts) (f : Counts → Paper Counts) → Plainly a → ((st : Counts) → Plainly (f st)) → Plainly (after a f)
-unfolding after
-plainly-after (success st) f p q = q st
-plainly-after (refused u) f p q = plainly-refused (p u refl)
-
-plainly-budget : (budget : ℕ) (st : Counts) (p : ℕ) {a : Paper Counts} → Plainly a → Plainly (inBudget budget st p a)
-unfolding inBudget
-plainly-budget budget st p q = plainly-cond (eqb (st .lists) budget) (plainly-fault OUT-OF-STEPS p (st .lists) (omega arith)) q
-
-one-plain : (budget : ℕ) (st : Counts) (e : Event) → Sound e → Plainly (one budget st e)
-unfolding one
-one-plain budget st (deep p) g = plainly-fault TOO-DEEP p (st .lists) (omega arith)
-one-plain budget st (bad n p) g = plainly-budget budget st p (plainly-fault n p (st .lists) g)
-one-plain budget st (index p n) g = plainly-budget budget st p (plainly-success _)
-one-plain budget st (leaf p l) g = plainly-budget budget st p (plainly-success _)
-
-judge-plain : (budget : ℕ) (st : Counts) (es : List Event) → All Sound es → Plainly (judge budget st es)
-unfolding All judge
-judge-plain budget st [] g = plainly-success st
-judge-plain budget st (e ∷ es) g = plainly-after (one budget st e) _ (one-plain budget st e (g .0)) (λ st′. judge-plain budget st′ es (g .1))
+sound-at s base p (refused t) e = λ l. plain-fault (t .number) (t .position) l (list-plain s p t e .other)
 
 measured-plain : (s : List ℕ) (base count list budget : ℕ) → Plainly (measured s base count list budget)
-unfolding measured
 measured-plain s base count list budget =
-    plainly-cond (ltb BUDGET-LIMIT budget) (plainly-by BAD-BUDGET 0 (omega arith))
-    (plainly-cond (ltb COUNT-LIMIT count) (plainly-by TOO-MANY 0 (omega arith))
-    (plainly-cond (eqb count 0) (plainly-success none)
-    (judge-plain budget none (walkFrom s base list) (trace-all Sound s base (λ p. tt) (sound-at s base) 8 list))))
+    record-every Plain (λ p l. plain-fault OUT-OF-STEPS p l (omega arith)) (plain-fault BAD-BUDGET 0 0 (omega arith)) (plain-fault TOO-MANY 0 0 (omega arith)) count budget
+    (walkFrom s base list) (trace-all (Sound Plain) s base (λ p l. plain-fault TOO-DEEP p l (omega arith)) (sound-at s base) 8 list)
 
 -- ---- an answer with no regard to room, and with it
 
@@ -130,7 +101,7 @@ module _ {A : Type 0} (full : A → Told) (d : ℕ) (a : Paper A) (plain : Plain
 module _ (s : List ℕ) (base count list budget : ℕ) where
   walk-sums : (t : Counts) → measured s base count list budget ≡ success t → Sums (fullOf t) (droppedBy s base count list)
   walk-sums t e =
-      let c = measured-counts s base count list budget t e in
+      let c = measured-counts count budget (walkFrom s base list) t e in
       let k = ap (λ (u : Counts). u .kept) c in
       let n = ap (λ (u : Counts). u .entries) c in
       let d = ap (λ (u : Counts). u .dropped) c in

@@ -7,11 +7,11 @@ use Rattle.sub_key_list.specs.Lists.{entrySize, ofKind, listAt}
 use Rattle.sub_key_list.specs.Leaves.{keep, leafKept, dropOne, leafDropped, onlyLeaf}
 use Rattle.sub_key_walk.specs.Trace.{each, below, trace, keptIn, keptOf, listsIn, entriesIn, droppedIn}
 use Rattle.sub_key_walk.specs.Judge.{counted, inBudget, one, after, judge}
-use Rattle.sub_key_walk.specs.Answers.{measured, reachedBy}
+use Rattle.sub_key_walk.specs.Answers.{fromRecord, reachedFor}
 use Rattle.sub_key_walk.specs.Examples.{Examples}
 
 pub examples : Examples
-unfolding little entrySize ofKind listAt keep leafKept dropOne leafDropped onlyLeaf each below trace keptIn keptOf listsIn entriesIn droppedIn counted inBudget one after judge onSuccess inRoom measured reachedBy bufferAfter
+unfolding little entrySize ofKind listAt keep leafKept dropOne leafDropped onlyLeaf each below trace keptIn keptOf listsIn entriesIn droppedIn counted inBudget one after judge onSuccess inRoom fromRecord reachedFor bufferAfter
 examples = record {
   li-list = refl;
   empty-list = refl;

@@ -8,7 +8,7 @@ use native.Mathlib.Omega.{arith}
 use borrow.Author.Tests.{eq-eqb, ne-eqb, eqb-true, eqb-false}
 use lib.Dec.{eqb}
 use lib.ListN.{length, length-append}
-use Rattle.words.specs.Paper.{Paper, success, refused}
+use Rattle.words.specs.Paper.{Told, Paper, success, refused}
 use Rattle.words.proofs.Papers.{success-refused, same-success}
 use Rattle.sub_key_walk.specs.Trace.{Event, deep, bad, index, leaf, keptIn, keptOf, listsIn, listsOf, entriesOf, droppedOf, total}
 use Rattle.sub_key_walk.specs.Judge.{fault, counts, counted, inBudget, one, after, judge}
@@ -68,7 +68,7 @@ record OneRead (budget : ℕ) (st : Counts) (e : Event) (u : Counts) : Type 0 wh
 one-read : (budget : ℕ) (st : Counts) (e : Event) (u : Counts) → one budget st e ≡ success u → OneRead budget st e u
 unfolding one
 one-read budget st (deep p) u q = absurd (success-refused (sym q))
-one-read budget st (bad r p) u q = absurd (success-refused (sym (budget-success budget st p (refused (fault r p (st .lists))) u q .1)))
+one-read budget st (bad r p) u q = absurd (success-refused (sym (budget-success budget st p (refused (fault (r .number) (r .position) (st .lists))) u q .1)))
 one-read budget st (index p n) u q =
     let w = budget-success budget st p (success (counted st (index p n))) u q in
     record { good = tt; unspent = eqb-false _ _ (w .0); is = sym (same-success (w .1)) }
@@ -144,7 +144,7 @@ good-lists budget st e es n g h ih (same q) = rw (spent-lists budget st e es q) 
 good-lists budget st e es n g h ih (other q) =
     rw (judge-next budget st e es g q) (omega (arith, counted-lists st e g, ih (counted st e) (omega (arith, counted-lists st e g))))
 
-bad-lists : (budget : ℕ) (st : Counts) (r p : ℕ) (es : List Event) → st .lists ≤ budget → Test (st .lists) budget
+bad-lists : (budget : ℕ) (st : Counts) (r : Told) (p : ℕ) (es : List Event) → st .lists ≤ budget → Test (st .lists) budget
     → listsBy (judge budget st (bad r p ∷ es)) ≡ min budget (st .lists + 0)
 unfolding judge one inBudget after
 bad-lists budget st r p es h (same q) = rw (eq-eqb (st .lists) budget q) (omega arith)

@@ -5,6 +5,8 @@ pub mod Papers
 pub mod Answers
 pub mod Judged
 pub mod Traces
+pub mod Refusals
+pub mod Profiles
 pub mod Demand
 pub mod Dropped
 pub mod Examples

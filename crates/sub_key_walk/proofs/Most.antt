@@ -13,7 +13,7 @@ use Rattle.words.proofs.Papers.{success-refused, same-success}
 use Rattle.sub_key_list.specs.Lists.{Listed, listAt}
 use Rattle.sub_key_list.specs.Lists as lists
 use Rattle.sub_key_walk.specs.Trace.{Event, deep, walkFrom, keptOf, listsIn, listsOf, entriesIn, entriesOf, total}
-use Rattle.sub_key_walk.specs.Answers.{BUDGET-LIMIT, COUNT-LIMIT, none, measured}
+use Rattle.sub_key_walk.specs.Answers.{BUDGET-LIMIT, COUNT-LIMIT, none, fromRecord, measured}
 use Rattle.sub_key_walk.specs.Free.{All}
 use Rattle.sub_key_walk.specs.declared.Counts.{Counts}
 use Rattle.sub_key_walk.proofs.Judged.{all-judge, judge-counts}
@@ -41,7 +41,7 @@ all-few (e ∷ es) a = let h : entriesIn e ≤ 65535 * listsIn e = a .0 in omega
 
 pub kept-most : (s : List ℕ) → Bytes s → (base count list budget : ℕ) (t : Counts) → measured s base count list budget ≡ success t
     → t .kept ≤ 65535 * BUDGET-LIMIT
-unfolding measured
+unfolding fromRecord
 kept-most s b base count list budget t q = go (ltb BUDGET-LIMIT budget) (ltb COUNT-LIMIT count) (eqb count 0) refl refl refl
   where
     go : (x y z : Bool) → ltb BUDGET-LIMIT budget ≡ x → ltb COUNT-LIMIT count ≡ y → eqb count 0 ≡ z → t .kept ≤ 65535 * BUDGET-LIMIT

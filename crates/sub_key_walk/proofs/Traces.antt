@@ -134,6 +134,9 @@ index-of-kind kind count n e = go (eqb kind RI) refl
     go true q = let x : lists.index count ≡ lists.index n = rw q at e in (eqb-true _ _ q, (cc))
     go false q = let x : lists.leaf kind (entrySize kind) count ≡ lists.index n = rw q at e in absurd (let y : _≡_ {A = ℕ} 0 1 = cc in omega arith)
 
+pub index-is-ri : (s : List ℕ) (p n : ℕ) → listAt s p ≡ success (lists.index n) → kindAt s p ≡ RI
+index-is-ri s p n e = index-of-kind (kindAt s p) (countAt s p) n (same-success (sym (readable-list s p (read-readable s p (rw e tt))) ∙ e)) .0
+
 pub entry-of-index : (s : List ℕ) (p n pos i : ℕ) → listAt s p ≡ success (lists.index n) → i < n → pos ≡ p + 8 + 4 * i → pos + 4 ≤ length s
 unfolding entrySize
 entry-of-index s p n pos i e h q =
@@ -150,7 +153,7 @@ module _ (P : Event → Type 0) where
   all-append [] ys a = (tt, a)
   all-append (x ∷ xs) ys a = let r = all-append xs ys (a .1) in ((a .0, r .0), r .1)
 
-  append-all : (xs ys : List Event) → All P xs → All P ys → All P (xs ++ ys)
+  pub append-all : (xs ys : List Event) → All P xs → All P ys → All P (xs ++ ys)
   unfolding All
   append-all [] ys a b = b
   append-all (x ∷ xs) ys a b = (a .0, append-all xs ys (a .1) b)
@@ -159,7 +162,7 @@ module _ (P : Event → Type 0) where
 abbrev pub eventOf : List ℕ → ℕ → ℕ → Paper Listed → Event
 eventOf s base p (success (lists.leaf k z n)) = leaf p (leafOf s base p z n)
 eventOf s base p (success (lists.index n)) = index p n
-eventOf s base p (refused t) = bad (t .number) p
+eventOf s base p (refused t) = bad t p
 
 -- what goes over from P to Q at each list goes over for a whole trace
 module _ (P Q : Event → Type 0) (s : List ℕ) (base : ℕ) (d : (p : ℕ) → P (deep p) → Q (deep p))

@@ -123,7 +123,7 @@ module _ (hd : ℕ → ℕ → Paper Listed) (budget : ℕ) (st : Counts) where
 
       module _ (k : st .lists ≡ budget → ⊥) where
         judge-bad : (t : Told) → hd levels (offset + base) ≡ refused t
-            → refused (fault (t .number) (offset + base) (st .lists)) ≡ judge budget st (trace hd levels s base offset)
+            → refused (fault (t .number) (t .position) (st .lists)) ≡ judge budget st (trace hd levels s base offset)
         unfolding below judge one inBudget after
         judge-bad t e = rw (trace-in hd levels s base offset h, e, ne-eqb _ _ k)
 
@@ -232,7 +232,7 @@ pub record Reached (hd : ℕ → ℕ → Paper Listed) (budget : ℕ) (st : Coun
 
 module _ {hd : ℕ → ℕ → Paper Listed} {budget : ℕ} {st : Counts} {levels : ℕ} {s : List ℕ} {base offset : ℕ} where
   pub walk-bad : {g : Refusal} → Reached hd budget st levels s base offset (found.Refused g) → {r : WalkAnswer}
-      → walkPaper r ≡ refused (fault (g .number) (offset + base) (st .lists)) → Walk budget st (trace hd levels s base offset) r
+      → walkPaper r ≡ refused (fault (g .number) (g .position) (st .lists)) → Walk budget st (trace hd levels s base offset) r
   walk-bad {g} x e =
       walk-refused budget st (trace hd levels s base offset) e
       (judge-bad hd budget st levels s base offset (x .deeper) (x .unspent) _ (x .is))

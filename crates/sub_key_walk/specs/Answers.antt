@@ -26,13 +26,16 @@ COUNT-LIMIT = 1048576
 abbrev pub none : Counts
 none = counts 0 0 0 0
 
--- "From a key record: 13, then 7; count 0 succeeds and reads nothing", then the walk: all refusals but 9
-unfoldable pub measured : List ℕ → ℕ → ℕ → ℕ → ℕ → Paper Counts
-measured s base count list budget =
+-- "From a key record: 13, then 7; count 0 succeeds and reads nothing", then the walk, which reaches the lists `es`: all refusals but 9
+unfoldable pub fromRecord : ℕ → ℕ → List Event → Paper Counts
+fromRecord count budget es =
     cond (ltb BUDGET-LIMIT budget) (refused (by BAD-BUDGET 0))
     (cond (ltb COUNT-LIMIT count) (refused (by TOO-MANY 0))
     (cond (eqb count 0) (success none)
-    (judge budget none (walkFrom s base list))))
+    (judge budget none es)))
+
+abbrev pub measured : List ℕ → ℕ → ℕ → ℕ → ℕ → Paper Counts
+measured s base count list budget = fromRecord count budget (walkFrom s base list)
 
 -- "NO ROOM also returns the places needed and the walk's entry count", the lists read and, "with 9, given too", the number dropped
 abbrev pub fullOf : Counts → Told
@@ -43,8 +46,11 @@ abbrev pub answerOf : List ℕ → ℕ → ℕ → ℕ → ℕ → ℕ → Paper
 answerOf s base count list budget room = inRoom fullOf room (measured s base count list budget)
 
 -- the lists that are reached from a key record: "count 0 succeeds and reads nothing"
-unfoldable pub reachedBy : List ℕ → ℕ → ℕ → ℕ → List Event
-reachedBy s base count list = cond (eqb count 0) [] (walkFrom s base list)
+unfoldable pub reachedFor : ℕ → List Event → List Event
+reachedFor count es = cond (eqb count 0) [] es
+
+abbrev pub reachedBy : List ℕ → ℕ → ℕ → ℕ → List Event
+reachedBy s base count list = reachedFor count (walkFrom s base list)
 
 -- the offsets that a walk that succeeds keeps
 abbrev pub keptBy : List ℕ → ℕ → ℕ → ℕ → List ℕ

@@ -31,7 +31,7 @@ inBudget budget st p a = cond (eqb (st .lists) budget) (refused (fault OUT-OF-ST
 -- "On reaching a list ..: 14, 15", then the list's own refusal, else it counts as read
 unfoldable pub one : ℕ → Counts → Event → Paper Counts
 one budget st (deep p) = refused (fault TOO-DEEP p (st .lists))
-one budget st (bad n p) = inBudget budget st p (refused (fault n p (st .lists)))
+one budget st (bad t p) = inBudget budget st p (refused (fault (t .number) (t .position) (st .lists)))
 one budget st (index p n) = inBudget budget st p (success (counted st (index p n)))
 one budget st (leaf p l) = inBudget budget st p (success (counted st (leaf p l)))
 

@@ -18,9 +18,13 @@ readOf l = record { kept = length (l .kept); entries = l .entries; dropped = l .
 abbrev pub fullLeaf : LeafRead → Told
 fullLeaf r = noRoom 0 (r .kept) (r .entries) (r .dropped)
 
+-- the refusals of a leaf list that is read as `a`, then 9
+abbrev pub leafInRoom : Paper Leaf → ℕ → Paper LeafRead
+leafInRoom a room = inRoom fullLeaf room (onSuccess readOf a)
+
 -- the refusals of one list, BAD SIGN for an `ri` list, then 9
 abbrev pub leafAnswerOf : List ℕ → ℕ → ℕ → ℕ → Paper LeafRead
-leafAnswerOf s base p room = inRoom fullLeaf room (onSuccess readOf (leafAt s base p))
+leafAnswerOf s base p room = leafInRoom (leafAt s base p) room
 
 -- the offsets that a leaf list keeps
 unfoldable pub keptFrom : Paper Leaf → List ℕ
@@ -32,6 +36,10 @@ abbrev pub leafPaper : LeafAnswer → Paper LeafRead
 leafPaper (Read r) = success r
 leafPaper (Refused f) = refused (walkTold f)
 
--- what `leaf_sub_keys` promises of its answer `r` and of the buffer, which held `old` and then holds `new`
+-- the answer `r` of a leaf list that is read as `a`, and the buffer, which held `old` and then holds `new`
+abbrev pub LeafAnsweredAs : Paper Leaf → List ℕ → LeafAnswer → List ℕ → Type 0
+LeafAnsweredAs a old r new = Answered (leafPaper r) (leafInRoom a (length old)) (keptFrom a) old new
+
+-- what `leaf_sub_keys` promises
 abbrev pub LeafAnswered : List ℕ → ℕ → ℕ → List ℕ → LeafAnswer → List ℕ → Type 0
-LeafAnswered s base p old r new = Answered (leafPaper r) (leafAnswerOf s base p (length old)) (keptFrom (leafAt s base p)) old new
+LeafAnswered s base p old r new = LeafAnsweredAs (leafAt s base p) old r new

@@ -2,8 +2,10 @@ pub mod Trace
 pub mod Judge
 pub mod Answers
 pub mod Leaf
+pub mod Strict
 pub mod Free
 pub mod Demand
 pub mod Dropped
+pub mod Profiles
 pub mod Examples
 pub mod Walk

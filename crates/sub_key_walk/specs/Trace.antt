@@ -3,7 +3,7 @@
 use Prim.Native.Nat.{ℕ, zero, suc, _+_}
 use mathlib.Core.List.{List, [], _∷_, _++_}
 use Rattle.words.specs.Words.{word32}
-use Rattle.words.specs.Paper.{Paper, success, refused}
+use Rattle.words.specs.Paper.{Told, Paper, success, refused}
 use Rattle.sub_key_list.specs.Lists.{Listed, listAt}
 use Rattle.sub_key_list.specs.Lists as lists
 use Rattle.sub_key_list.specs.Leaves.{Leaf, leafOf}
@@ -12,8 +12,8 @@ use Rattle.sub_key_list.specs.Leaves.{Leaf, leafOf}
 pub data Event : Type 0 where
   -- below the last level
   deep : ℕ → Event
-  -- refused by a number, which stands first
-  bad : ℕ → ℕ → Event
+  -- refused: what its reading tells stands first
+  bad : Told → ℕ → Event
   -- an `ri` list: the number of its entries
   index : ℕ → ℕ → Event
   -- a leaf list, and what it gives
@@ -29,7 +29,7 @@ each f s (suc left) pos = f (word32 s pos) ++ each f s left (pos + 4)
 unfoldable pub below : (ℕ → List Event) → List ℕ → ℕ → ℕ → Paper Listed → List Event
 below f s base p (success (lists.leaf kind size n)) = leaf p (leafOf s base p size n) ∷ []
 below f s base p (success (lists.index n)) = index p n ∷ each f s n (p + 8)
-below f s base p (refused t) = bad (t .number) p ∷ []
+below f s base p (refused t) = bad t p ∷ []
 
 -- the lists reached from the list at an offset, with so many levels left: "On reaching a list, at its offset plus base". `hd` is
 -- how a list is read, by the levels left and the position.

@@ -3,14 +3,15 @@
 use Prim.Native.Nat.{ℕ, _+_, _*_, _≤_, _<_}
 use mathlib.Core.Path.{_≡_}
 use mathlib.Core.List.{List}
-use mathlib.Core.Bool.{Bool, true}
+use mathlib.Core.Bool.{Bool, true, cond}
 use lib.ListN.{length}
 use lib.Seq.{sets}
-use Rattle.words.specs.Paper.{success}
-use Rattle.sub_key_list.specs.Lists.{leaf, listAt}
+use Rattle.words.specs.Paper.{Paper, success}
+use Rattle.sub_key_list.specs.Lists.{Listed, leaf, listAt}
 use Rattle.sub_key_list.specs.Leaves.{leafDropped}
 use Rattle.sub_key_list.specs.declared.LeafList.{LeafList}
-use Rattle.sub_key_walk.specs.Trace.{Event, keptOf, droppedOf}
+use Rattle.sub_key_walk.specs.Trace.{Event, trace, ordinary, LEVELS, keptOf, droppedOf}
+use Rattle.sub_key_walk.specs.Strict.{strict}
 use Rattle.sub_key_walk.specs.Judge.{counts, judge}
 use Rattle.sub_key_walk.specs.Answers.{walkPaper}
 use Rattle.sub_key_walk.specs.declared.Counts.{Counts}
@@ -64,6 +65,13 @@ abbrev pub withLeaf : Counts → LeafRead → Counts
 withLeaf st r = counts (st .kept + r .kept) (st .lists + 1) (st .entries + r .entries) (st .dropped + r .dropped)
 
 -- ---- the walks
+
+-- how a list is read: strictly with a minor version, or in the ordinary way
+abbrev pub reading : Bool → List ℕ → ℕ → ℕ → ℕ → Paper Listed
+reading strictly s minor levels p = cond strictly (strict s minor levels p) (ordinary s levels p)
+
+abbrev pub walkBy : Bool → List ℕ → ℕ → ℕ → ℕ → List Event
+walkBy strictly s base list minor = trace (reading strictly s minor) LEVELS s base list
 
 -- a walk over the lists `es` from the counts `st`: what it answers, and that its counts stay small
 pub record Walk (budget : ℕ) (st : Counts) (es : List Event) (r : WalkAnswer) : Type 0 where

@@ -8,12 +8,14 @@ ghost use mathlib.Core.List.{[]};
 ghost use lib.ListN.{length};
 ghost use Rattle.words.specs.Words.{word32};
 ghost use Rattle.words.specs.Paper.{refused, noRoom};
+ghost use Rattle.sub_key_list.specs.Lists.{listPaper};
 ghost use Rattle.sub_key_list.specs.Leaves.{keep, leafKept, dropOne, leafDropped, leafOf};
 ghost use Rattle.sub_key_walk.specs.Trace.{trace, ordinary, walkFrom, keptOf};
 ghost use Rattle.sub_key_walk.specs.Judge.{fault, counts, judge};
-ghost use Rattle.sub_key_walk.specs.Answers.{BUDGET-LIMIT, none, measured, walkTold, walkPaper, WalkAnswered};
+ghost use Rattle.sub_key_walk.specs.Answers.{BUDGET-LIMIT, none, fromRecord, measured, walkTold, walkPaper, WalkAnswered};
 ghost use Rattle.sub_key_walk.specs.Leaf.{readOf, LeafAnswered};
-ghost use Rattle.sub_key_walk.specs.Walk.{Entries, Stands, Whole, Bound, Sized, Filled, Bounded, Small, withLeaf, Walk, Roomy};
+ghost use Rattle.sub_key_walk.specs.Strict.{strictMeasured, StrictAnswered, StrictLeafAnswered};
+ghost use Rattle.sub_key_walk.specs.Walk.{Entries, Stands, Whole, Bound, Sized, Filled, Bounded, Small, withLeaf, reading, walkBy, Walk, Roomy};
 
 // The greatest budget, the greatest count of subkeys or of values, and the levels of lists.
 const BUDGET_LIMIT: u32 = 65536;
@@ -455,12 +457,44 @@ pub fn leaf_sub_keys(image: &[u8], base: u32, position: usize, out: &mut [u32]) 
     }
 }
 
-// Measures the walk of the list at an offset, with so many levels left, after so many offsets kept, lists read, entries and entries
-// dropped.
+// The subkeys of the leaf list at a position, read strictly. What strict accepts, the ordinary reading answers identically.
+pub fn strict_leaf_sub_keys(
+    image: &[u8],
+    base: u32,
+    position: usize,
+    minor: u32,
+    out: &mut [u32],
+) -> LeafAnswer
+    ensures { λ r. ⌜ StrictLeafAnswered (now (image .entry)) base position minor (now (out .entry)) r (now (out .exit)) ⌝ }
+{
+    match sub_key_list::strict_list(image, position, minor, false) {
+        SubKeyList::Refused(fault) => LeafAnswer::Refused(refusal(fault.number, fault.position, 0)),
+        SubKeyList::Index(index) => LeafAnswer::Refused(refusal(words::BAD_SIGN, position, 0)),
+        SubKeyList::Leaf(leaf) => leaf_sub_keys(image, base, position, out),
+    }
+}
+
+// The list at a position, with so many levels left, read strictly or in the ordinary way. Every list but the top one is named by an
+// `ri` list.
+fn list_by(image: &[u8], position: usize, strict: bool, minor: u32, levels: u32) -> SubKeyList
+    ensures { λ r. ⌜ listPaper r ≡ reading strict (now (image .entry)) minor levels position ⌝ }
+{
+    if strict {
+        let named = levels < LEVELS;
+        sub_key_list::strict_list(image, position, minor, named)
+    } else {
+        sub_key_list::read_list(image, position)
+    }
+}
+
+// Measures the walk of the list at an offset, strictly or in the ordinary way, with so many levels left, after so many offsets kept,
+// lists read, entries and entries dropped.
 fn measure(
     image: &[u8],
     base: u32,
     budget: u32,
+    strict: bool,
+    minor: u32,
     levels: u32,
     offset: u32,
     kept: u32,
@@ -469,7 +503,7 @@ fn measure(
     dropped: u32,
 ) -> WalkAnswer
     requires { ⌜ budget ≤ BUDGET-LIMIT ⌝ ∗ ⌜ Bounded budget (counts kept lists entries dropped) ⌝ }
-    ensures { λ r. ⌜ Walk budget (counts kept lists entries dropped) (trace (ordinary (now (image .entry))) levels (now (image .entry)) base offset) r ⌝ }
+    ensures { λ r. ⌜ Walk budget (counts kept lists entries dropped) (trace (reading strict (now (image .entry)) minor) levels (now (image .entry)) base offset) r ⌝ }
 {
     let position = (offset as usize) + (base as usize);
     if levels == 0 {
@@ -478,8 +512,8 @@ fn measure(
     if lists == budget {
         return refuse(words::OUT_OF_STEPS, position, lists);
     }
-    match sub_key_list::read_list(image, position) {
-        SubKeyList::Refused(fault) => refuse(fault.number, position, lists),
+    match list_by(image, position, strict, minor, levels) {
+        SubKeyList::Refused(fault) => refuse(fault.number, fault.position, lists),
         SubKeyList::Leaf(leaf) => {
             let read = read_leaf(image, base, position, leaf);
             with_leaf(kept, lists, entries, dropped, read)
@@ -494,7 +528,19 @@ fn measure(
             let mut i: u16 = 0;
             while i < count {
                 let next = word(image, pos);
-                match measure(image, base, budget, levels - 1, next, k, l, e, d) {
+                match measure(
+                    image,
+                    base,
+                    budget,
+                    strict,
+                    minor,
+                    levels - 1,
+                    next,
+                    k,
+                    l,
+                    e,
+                    d,
+                ) {
                     WalkAnswer::Refused(fault) => {
                         return WalkAnswer::Refused(fault);
                     }
@@ -569,7 +615,7 @@ fn measure_top(image: &[u8], base: u32, budget: u32, list: u32) -> WalkAnswer
             SubKeyList::Refused(fault) => {}
         }
     }
-    measure(image, base, budget, LEVELS, list, 0, 0, 0, 0)
+    measure(image, base, budget, false, 0, LEVELS, list, 0, 0, 0, 0)
 }
 
 // Writes what the walk from the top list keeps, and gives the place behind it. A leaf list of which nothing is dropped is written at
@@ -592,10 +638,17 @@ fn fill_top(image: &[u8], base: u32, list: u32, whole: bool, out: &mut [u32]) ->
     fill(image, base, LEVELS, list, whole, out, 0)
 }
 
-// The walk from a key record with a subkey count and the offset of its list, with no regard to room: what it counts, and nothing is
-// written.
-pub fn sub_key_counts(image: &[u8], base: u32, count: u32, list: u32, budget: u32) -> WalkAnswer
-    ensures { λ r. ⌜ walkPaper r ≡ measured (now (image .entry)) base count list budget ⌝ }
+// The walk from a key record with a subkey count and the offset of its list, strictly or in the ordinary way, with no regard to room.
+fn counts_by(
+    image: &[u8],
+    base: u32,
+    count: u32,
+    list: u32,
+    budget: u32,
+    strict: bool,
+    minor: u32,
+) -> WalkAnswer
+    ensures { λ r. ⌜ walkPaper r ≡ fromRecord count budget (walkBy strict (now (image .entry)) base list minor) ⌝ }
 {
     if BUDGET_LIMIT < budget {
         return refuse(words::BAD_BUDGET, 0, 0);
@@ -606,7 +659,31 @@ pub fn sub_key_counts(image: &[u8], base: u32, count: u32, list: u32, budget: u3
     if count == 0 {
         return read_so_far(0, 0, 0, 0);
     }
+    if strict {
+        return measure(image, base, budget, strict, minor, LEVELS, list, 0, 0, 0, 0);
+    }
     measure_top(image, base, budget, list)
+}
+
+// What the walk from a key record with a subkey count and the offset of its list counts, with no regard to room. Nothing is written.
+pub fn sub_key_counts(image: &[u8], base: u32, count: u32, list: u32, budget: u32) -> WalkAnswer
+    ensures { λ r. ⌜ walkPaper r ≡ measured (now (image .entry)) base count list budget ⌝ }
+{
+    counts_by(image, base, count, list, budget, false, 0)
+}
+
+// What it counts with each list read strictly.
+pub fn strict_sub_key_counts(
+    image: &[u8],
+    base: u32,
+    count: u32,
+    list: u32,
+    budget: u32,
+    minor: u32,
+) -> WalkAnswer
+    ensures { λ r. ⌜ walkPaper r ≡ strictMeasured (now (image .entry)) base count list budget minor ⌝ }
+{
+    counts_by(image, base, count, list, budget, true, minor)
 }
 
 // The subkeys of a key record with a subkey count and the offset of its list, into `out`.
@@ -633,5 +710,23 @@ pub fn sub_keys(
             }
             WalkAnswer::Read(whole)
         }
+    }
+}
+
+// The same with each list read strictly. What strict accepts, the ordinary reading answers identically.
+pub fn strict_sub_keys(
+    image: &[u8],
+    base: u32,
+    count: u32,
+    list: u32,
+    budget: u32,
+    minor: u32,
+    out: &mut [u32],
+) -> WalkAnswer
+    ensures { λ r. ⌜ StrictAnswered (now (image .entry)) base count list budget minor (now (out .entry)) r (now (out .exit)) ⌝ }
+{
+    match strict_sub_key_counts(image, base, count, list, budget, minor) {
+        WalkAnswer::Refused(fault) => WalkAnswer::Refused(fault),
+        WalkAnswer::Read(whole) => sub_keys(image, base, count, list, budget, out),
     }
 }

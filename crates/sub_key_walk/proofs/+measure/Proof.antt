@@ -4,8 +4,10 @@ use native.Mathlib.Omega.{arith}
 use borrow.Author.Needs.{needs}
 use Rattle.sub_key_list.specs.Lists.{listPaper}
 use Rattle.sub_key_list.specs.declared.SubKeyList.{SubKeyList}
-use Rattle.sub_key_walk.specs.Trace.{trace, ordinary}
+use Rattle.sub_key_walk.specs.Trace.{trace}
 use Rattle.sub_key_walk.specs.Judge.{counts}
+use Rattle.sub_key_walk.specs.Walk.{reading}
+use Rattle.sub_key_walk.proofs.Profiles.{reading-read}
 use Rattle.sub_key_walk.proofs.Traces.{entry-of-index}
 use Rattle.sub_key_walk.proofs.Walks.{Indexing, indexing-start, indexing-step, walk-deep, walk-spent, leaf-small, Reached, walk-bad, reached-small, walk-leaf, index-bounded, walk-index, walk-index-refused}
 use Prim.Native.Nat.{ℕ, _<_}
@@ -14,7 +16,7 @@ use borrow.Fn.PlainCycle.{Measures, is, falls, and}
 use Rattle.sub_key_walk.proofs.measure.Reads as measure
 use Rattle.sub_key_walk.proofs.measure.Kinds as measure-kinds
 use Rattle.sub_key_walk.proofs.+measure.Lts-measure as measure-lts
-use Rattle.sub_key_list.proofs.read_list.Reads as read-list-reads
+use Rattle.sub_key_walk.proofs.list_by.Reads as list-by-reads
 use Rattle.sub_key_walk.proofs.read_leaf.Reads as read-leaf-reads
 use Rattle.sub_key_walk.proofs.read_so_far.Reads as read-so-far-reads
 use Rattle.sub_key_walk.proofs.refuse.Reads as refuse-reads
@@ -24,7 +26,7 @@ use Rattle.sub_key_walk.proofs.+measure.{statement}
 use Rattle.sub_key_walk.proofs.+measure.Tie.{close}
 
 abbrev μ-measure : Measures 1 measure-kinds.ps ℕ
-μ-measure κs a = a .1 .1 .1 .0
+μ-measure κs a = a .1 .1 .1 .1 .1 .0
 
 abbrev measure-at : ℕ → In 1 measure-kinds.ps
 measure-at t = and 1 measure-kinds.ps (is 1 measure-kinds.ps μ-measure t) measure.Pre
@@ -33,26 +35,26 @@ abbrev measure-below : ℕ → In 1 measure-kinds.ps
 measure-below t = and 1 measure-kinds.ps (falls 1 measure-kinds.ps _<_ μ-measure t) measure.Pre
 
 abbrev callees : ℕ → measure-lts.Claims
-callees t = (refuse-reads.Asked, refuse-reads.Learnt, read-list-reads.Asked, read-list-reads.Learnt, read-leaf-reads.Asked, read-leaf-reads.Learnt, with-leaf-reads.Asked, with-leaf-reads.Learnt, word-reads.Asked, word-reads.Learnt, measure-below t, measure.Post, read-so-far-reads.Asked, read-so-far-reads.Learnt)
+callees t = (refuse-reads.Asked, refuse-reads.Learnt, list-by-reads.Asked, list-by-reads.Learnt, read-leaf-reads.Asked, read-leaf-reads.Learnt, with-leaf-reads.Asked, with-leaf-reads.Learnt, word-reads.Asked, word-reads.Learnt, measure-below t, measure.Post, read-so-far-reads.Asked, read-so-far-reads.Learnt)
 
 abbrev measure-Inv-loop : measure-lts.InvT-loop
-measure-Inv-loop image base budget levels offset kept lists entries dropped position count k₀ l₀ e₀ d₀ pos₀ i₀ k l e d pos i =
-    Indexing budget (trace (ordinary image) (levels - 1) image base) image count pos₀ (counts k₀ l₀ e₀ d₀) (counts k l e d) pos i
+measure-Inv-loop image base budget strict minor levels offset kept lists entries dropped position count k₀ l₀ e₀ d₀ pos₀ i₀ k l e d pos i =
+    Indexing budget (trace (reading strict image minor) (levels - 1) image base) image count pos₀ (counts k₀ l₀ e₀ d₀) (counts k l e d) pos i
 
 abbrev measure-μ-loop : measure-lts.MeasureT-loop
-measure-μ-loop image base budget levels offset kept lists entries dropped position count k₀ l₀ e₀ d₀ pos₀ i₀ k l e d pos i =
+measure-μ-loop image base budget strict minor levels offset kept lists entries dropped position count k₀ l₀ e₀ d₀ pos₀ i₀ k l e d pos i =
     count - i
 
 -- what is known once the list is read, at what the code then finds there
-reached : (t : ℕ) (r : measure-lts.After-read-list (callees t) (measure-at t) measure.Post measure-Inv-loop measure-μ-loop) (g : SubKeyList) → r .read-list .result ≡ g →
+reached : (t : ℕ) (r : measure-lts.After-list-by (callees t) (measure-at t) measure.Post measure-Inv-loop measure-μ-loop) (g : SubKeyList) → r .list-by .result ≡ g →
     let a = r .before .before .before .before .args in
-    Reached (ordinary (a .image .now)) (a .budget) (counts (a .kept) (a .lists) (a .entries) (a .dropped)) (a .levels) (a .image .now) (a .base) (a .offset) g
+    Reached (reading (a .strict) (a .image .now) (a .minor)) (a .budget) (counts (a .kept) (a .lists) (a .entries) (a .dropped)) (a .levels) (a .image .now) (a .base) (a .offset) g
 reached t r g e =
     record {
       deeper = r .before .before .if1 .left;
       unspent = r .before .if2 .left;
       few = r .before .before .before .before .pre .1 .1;
-      is = sym (r .read-list .ensures) ∙ ap listPaper e;
+      is = sym (r .list-by .ensures) ∙ ap listPaper e;
     }
 
 measure-add-position : (t : ℕ) → measure-lts.Need-add-position (callees t) (measure-at t) measure.Post measure-Inv-loop measure-μ-loop
@@ -64,7 +66,7 @@ measure-refuse-requires t c κs = search needs
 measure-returns : (t : ℕ) → measure-lts.Need-returns (callees t) (measure-at t) measure.Post measure-Inv-loop measure-μ-loop
 measure-returns t c =
     let a = c .before .before .before .args in
-    walk-deep (ordinary (a .image .now)) (a .budget) (counts (a .kept) (a .lists) (a .entries) (a .dropped)) (a .levels) (a .image .now) (a .base) (a .offset) (c .refuse .ensures) (c .before .if1 .taken)
+    walk-deep (reading (a .strict) (a .image .now) (a .minor)) (a .budget) (counts (a .kept) (a .lists) (a .entries) (a .dropped)) (a .levels) (a .image .now) (a .base) (a .offset) (c .refuse .ensures) (c .before .if1 .taken)
 
 measure-refuse-requires-2 : (t : ℕ) → measure-lts.Need-refuse-requires-2 (callees t) (measure-at t) measure.Post measure-Inv-loop measure-μ-loop
 measure-refuse-requires-2 t c κs = search needs
@@ -72,10 +74,10 @@ measure-refuse-requires-2 t c κs = search needs
 measure-returns-2 : (t : ℕ) → measure-lts.Need-returns-2 (callees t) (measure-at t) measure.Post measure-Inv-loop measure-μ-loop
 measure-returns-2 t c =
     let a = c .before .before .before .before .args in
-    walk-spent (ordinary (a .image .now)) (a .budget) (counts (a .kept) (a .lists) (a .entries) (a .dropped)) (a .levels) (a .image .now) (a .base) (a .offset) (c .refuse2 .ensures) (c .before .before .if1 .left) (c .before .if2 .taken)
+    walk-spent (reading (a .strict) (a .image .now) (a .minor)) (a .budget) (counts (a .kept) (a .lists) (a .entries) (a .dropped)) (a .levels) (a .image .now) (a .base) (a .offset) (c .refuse2 .ensures) (c .before .before .if1 .left) (c .before .if2 .taken)
 
-measure-read-list-requires : (t : ℕ) → measure-lts.Need-read-list-requires (callees t) (measure-at t) measure.Post measure-Inv-loop measure-μ-loop
-measure-read-list-requires t c κs = search needs
+measure-list-by-requires : (t : ℕ) → measure-lts.Need-list-by-requires (callees t) (measure-at t) measure.Post measure-Inv-loop measure-μ-loop
+measure-list-by-requires t c κs = search needs
 
 measure-enum-known-fault : (t : ℕ) → measure-lts.Need-enum-known-fault (callees t) (measure-at t) measure.Post measure-Inv-loop measure-μ-loop
 measure-enum-known-fault t c = search needs
@@ -88,7 +90,8 @@ measure-enum-known-leaf t c = search needs
 
 measure-read-leaf-requires : (t : ℕ) → measure-lts.Need-read-leaf-requires (callees t) (measure-at t) measure.Post measure-Inv-loop measure-μ-loop
 measure-read-leaf-requires t c κs =
-    sym (c .before .before .before .read-list .ensures) ∙ ap listPaper (c .before .leaf .given .1)
+    let a = c .before .before .before .before .before .before .before .args in
+    reading-read (a .strict) (a .image .now) (a .minor) (a .levels) _ (reached t (c .before .before .before) _ (c .before .leaf .given .1) .is)
 
 measure-with-leaf-requires : (t : ℕ) → measure-lts.Need-with-leaf-requires (callees t) (measure-at t) measure.Post measure-Inv-loop measure-μ-loop
 measure-with-leaf-requires t c κs =
@@ -111,7 +114,7 @@ measure-loop-holds t c =
 measure-word-requires : (t : ℕ) → measure-lts.Need-word-requires (callees t) (measure-at t) measure.Post measure-Inv-loop measure-μ-loop
 measure-word-requires t c κs =
     let a = c .before .before .before .before .before .before .before .before .before .args in
-    entry-of-index (a .image .now) _ _ _ _ (sym (c .before .before .before .before .before .read-list .ensures) ∙ ap listPaper (c .before .before .before .index .given .1)) (c .loop-test .taken) (c .before .loop .inv .near)
+    entry-of-index (a .image .now) _ _ _ _ (reading-read (a .strict) (a .image .now) (a .minor) (a .levels) _ (reached t (c .before .before .before .before .before) _ (c .before .before .before .index .given .1) .is)) (c .loop-test .taken) (c .before .loop .inv .near)
 
 measure-sub-measure : (t : ℕ) → measure-lts.Need-sub-measure (callees t) (measure-at t) measure.Post measure-Inv-loop measure-μ-loop
 measure-sub-measure t c = search needs
@@ -161,8 +164,8 @@ pub +measure-spec : {M : Type 1} → statement M
 +measure-spec = close μ-measure λ t. measure-lts.spec (
   refuse-reads.Asked,
   refuse-reads.Learnt,
-  read-list-reads.Asked,
-  read-list-reads.Learnt,
+  list-by-reads.Asked,
+  list-by-reads.Learnt,
   read-leaf-reads.Asked,
   read-leaf-reads.Learnt,
   with-leaf-reads.Asked,
@@ -183,7 +186,7 @@ pub +measure-spec : {M : Type 1} → statement M
     (measure-returns t)
     (measure-refuse-requires-2 t)
     (measure-returns-2 t)
-    (measure-read-list-requires t)
+    (measure-list-by-requires t)
     (measure-enum-known-fault t)
     (measure-refuse-requires-3 t)
     (measure-enum-known-leaf t)

@@ -115,13 +115,13 @@ pub fn read_list(image: &[u8], position: usize) -> SubKeyList
 }
 
 // The least minor version at which a kind of list is permitted.
-fn least_minor(kind: u16) -> u32
-    ensures { λ r. ⌜ r ≡ leastMinor kind ⌝ }
+fn least_minor(signature: u16) -> u32
+    ensures { λ r. ⌜ r ≡ leastMinor signature ⌝ }
 {
-    if kind == LF {
+    if signature == LF {
         return 3;
     }
-    if kind == LH {
+    if signature == LH {
         return 5;
     }
     0
@@ -173,9 +173,9 @@ fn strict_checks(image: &[u8], position: usize, minor: u32, named: bool) -> Verd
             position: 0,
         });
     }
-    let count = half(image, position + 6);
+    let number = half(image, position + 6);
     let size = entry_size(kind);
-    let entries = (size as usize) * (count as usize);
+    let entries = (size as usize) * (number as usize);
     if !own_cell(image, position, 8 + entries) {
         return Verdict::Refused(Refusal {
             number: words::BAD_SIZE,

@@ -15,11 +15,9 @@ use Rattle.words.specs.Buffers.{inRoom, bufferAfter, Answered}
 use Rattle.words.specs.Paper.{Told, Paper, success, refused, by, onSuccess}
 use Rattle.words.proofs.Papers.{success-refused, same-told}
 use Rattle.words.proofs.Buffers.{room-refused, room-success, other-of, answered-refused, untouched}
-use Rattle.sub_key_list.specs.Lists.{Listed, listAt, listPaper}
+use Rattle.sub_key_list.specs.Lists.{Listed, listAt}
 use Rattle.sub_key_list.specs.Lists as lists
 use Rattle.sub_key_list.specs.Leaves.{leafOf, onlyLeaf}
-use Rattle.sub_key_list.specs.declared.LeafList.{LeafList}
-use Rattle.sub_key_list.specs.declared.SubKeyList.the-variants as found
 use Rattle.sub_key_list.specs.Profiles.{Added}
 use Rattle.sub_key_list.specs.Strict.{strictAt}
 use Rattle.sub_key_list.proofs.Cases.{list-every}
@@ -369,9 +367,9 @@ module _ (s : List ℕ) (base p minor : ℕ) (old : List ℕ) where
   leaf-same : {l : Listed} → strictAt s minor false p ≡ success l → strictAt s minor false p ≡ listAt s p
   leaf-same {l} e = e ∙ sym (accepted s minor false p l e .0)
 
-  pub strict-leaf : {l : LeafList} → listPaper (found.Leaf l) ≡ strictAt s minor false p → (r : LeafAnswer) (new : List ℕ) → LeafAnswered s base p old r new
+  pub strict-leaf : {l : Listed} → strictAt s minor false p ≡ success l → (r : LeafAnswer) (new : List ℕ) → LeafAnswered s base p old r new
       → StrictLeafAnswered s base p minor old r new
-  strict-leaf e r new x = subst (λ (a : Paper Listed). LeafAnsweredAs (onlyLeaf s base p a) old r new) (sym (leaf-same (sym e))) x
+  strict-leaf e r new x = subst (λ (a : Paper Listed). LeafAnsweredAs (onlyLeaf s base p a) old r new) (sym (leaf-same e)) x
 
   -- any answers and buffers that the contracts of `strict_leaf_sub_keys` and of `leaf_sub_keys` allow
   pub leaf-profiles : (r : LeafAnswer) (new : List ℕ) (o : LeafAnswer) (made : List ℕ) → StrictLeafAnswered s base p minor old r new → LeafAnswered s base p old o made

@@ -468,8 +468,8 @@ pub fn strict_leaf_sub_keys(
     ensures { λ r. ⌜ StrictLeafAnswered (now (image .entry)) base position minor (now (out .entry)) r (now (out .exit)) ⌝ }
 {
     match sub_key_list::strict_list(image, position, minor, false) {
-        SubKeyList::Refused(fault) => LeafAnswer::Refused(refusal(fault.number, fault.position, 0)),
-        SubKeyList::Index(index) => LeafAnswer::Refused(refusal(words::BAD_SIGN, position, 0)),
+        SubKeyList::Refused(why) => LeafAnswer::Refused(refusal(why.number, why.position, 0)),
+        SubKeyList::Index(index) => leaf_sub_keys(image, base, position, out),
         SubKeyList::Leaf(leaf) => leaf_sub_keys(image, base, position, out),
     }
 }

@@ -15,7 +15,7 @@ use Rattle.words.specs.declared.Refusal.{Refusal}
 use Rattle.words.proofs.Papers.{refused-success, success-refused, same-success, same-told}
 use Rattle.cell.specs.Cells.{magnitudeAt, allocatedAt, bytesLeft}
 use Rattle.sub_key_list.specs.Lists.{LF, LH, LI, RI, Listed, kindAt, listAt, listPaper}
-use Rattle.sub_key_list.specs.Strict.{leastMinor, permitted, riUnderRi, ownCell, listBytes, strictChecks, strictAt}
+use Rattle.sub_key_list.specs.Strict.{leastMinor, permitted, riUnderRi, barred, ownCell, listBytes, strictChecks, strictAt}
 use Rattle.sub_key_list.specs.Profiles.{Rule, Met, Added, OneList}
 use Rattle.sub_key_list.specs.declared.SubKeyList.{SubKeyList}
 use Rattle.sub_key_list.specs.declared.SubKeyList.the-variants.{Refused}
@@ -88,7 +88,7 @@ module _ (s : List ℕ) (minor : ℕ) (named : Bool) (p : ℕ) where
     is-added : {t : Told} → Added p t → strictChecks s minor named p ≡ refused t → (Met s minor named p → ⊥) → Asked
 
   asked : Asked
-  unfolding strictChecks
+  unfolding strictChecks barred
   asked = go (permitted (kindAt s p) minor) (riUnderRi named (kindAt s p)) (ownCell s p (listBytes s p)) refl refl refl
     where
       go : (a b c : Bool) → permitted (kindAt s p) minor ≡ a → riUnderRi named (kindAt s p) ≡ b → ownCell s p (listBytes s p) ≡ c → Asked

@@ -6,7 +6,7 @@ use mathlib.Core.Bool.{Bool, true, false, cond, not}
 use Prim.Native.Nat.{ℕ, _+_, _-_, _*_, _≤_, _<_}
 use native.Mathlib.Decide.{decLe}
 use native.Mathlib.Omega.{arith}
-use lib.Dec.{ltb, eqb}
+use lib.Dec.{ltb}
 use lib.ListN.{length}
 use borrow.Author.Tests.{lt-ltb, le-ltb, ltb-false}
 use Rattle.words.specs.Refusals.{BAD-SIZE, NOT-PERMITTED}
@@ -20,8 +20,8 @@ use Rattle.cell.specs.declared.CellAnswer.the-variants.{Held, TooSmall}
 use Rattle.cell.specs.declared.CellAnswer.the-variants as answers
 use Rattle.words.specs.declared.Refusal.{Refusal}
 use Rattle.cell.proofs.Exactly.{exactly, held-reads}
-use Rattle.sub_key_list.specs.Lists.{RI, entrySize, Listed, kindAt, countAt, listAt}
-use Rattle.sub_key_list.specs.Strict.{leastMinor, permitted, riUnderRi, ownCell, listBytes, strictChecks, strictAt}
+use Rattle.sub_key_list.specs.Lists.{entrySize, Listed, kindAt, countAt, listAt}
+use Rattle.sub_key_list.specs.Strict.{barred, ownCell, strictChecks, strictAt}
 
 -- ---- a list's own cell
 
@@ -69,28 +69,21 @@ refused-held e = let z : _≡_ {A = ℕ} 0 1 = cc in absurd (omega arith)
 
 -- ---- what the strict profile asks of a list
 
-module _ (s : List ℕ) (minor : ℕ) (named : Bool) (p : ℕ) {kind : ℕ} (k : kind ≡ kindAt s p) where
-  pub checks-kind : {b : Bool} → b ≡ permitted kind minor → not b ≡ true → refused (by NOT-PERMITTED 0) ≡ strictChecks s minor named p
+-- the kind is read, and whether it is barred
+module _ (s : List ℕ) (minor : ℕ) (named : Bool) (p : ℕ) {kind : ℕ} (k : kind ≡ kindAt s p) {b : Bool} (e : b ≡ barred minor named kind) where
+  pub checks-barred : b ≡ true → refused (by NOT-PERMITTED 0) ≡ strictChecks s minor named p
   unfolding strictChecks
-  checks-kind e t = rw (← k, ← e, t)
+  checks-barred t = rw (← k, ← e, t)
 
-  module _ {b : Bool} (e : b ≡ permitted kind minor) (f : not b ≡ false) where
-    pub checks-under : {d : Bool} → d ≡ riUnderRi named kind → d ≡ true → refused (by NOT-PERMITTED 0) ≡ strictChecks s minor named p
+  -- and whether it lies in its own cell
+  module _ (f : b ≡ false) {o : Bool} (x : o ≡ ownCell s p (8 + entrySize kind * countAt s p)) where
+    pub checks-cell : not o ≡ true → refused (by BAD-SIZE p) ≡ strictChecks s minor named p
     unfolding strictChecks
-    checks-under g t = rw (← k, ← e, f, ← g, t)
+    checks-cell t = rw (← k, ← e, f, ← x, t)
 
-    module _ {d : Bool} (g : d ≡ riUnderRi named kind) (h : d ≡ false) {needed : ℕ} (n : needed ≡ listBytes s p) {o : Bool} (x : o ≡ ownCell s p needed) where
-      pub checks-cell : not o ≡ true → refused (by BAD-SIZE p) ≡ strictChecks s minor named p
-      unfolding strictChecks
-      checks-cell t = rw (← n, ← k, ← e, f, ← g, h, ← x, t)
-
-      pub checks-whole : not o ≡ false → success tt ≡ strictChecks s minor named p
-      unfolding strictChecks
-      checks-whole t = rw (← n, ← k, ← e, f, ← g, h, ← x, t)
-
--- the bytes of a list whose kind and count are read
-pub needed-bytes : (s : List ℕ) (p : ℕ) {kind size count : ℕ} → kind ≡ kindAt s p → size ≡ entrySize kind → count ≡ countAt s p → 8 + size * count ≡ listBytes s p
-needed-bytes s p k z c = rw (z, k, c)
+    pub checks-whole : not o ≡ false → success tt ≡ strictChecks s minor named p
+    unfolding strictChecks
+    checks-whole t = rw (← k, ← e, f, ← x, t)
 
 -- ---- the list
 

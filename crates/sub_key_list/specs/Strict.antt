@@ -25,6 +25,10 @@ permitted kind minor = leb (leastMinor kind) minor
 unfoldable pub riUnderRi : Bool → ℕ → Bool
 riUnderRi named kind = cond named (eqb kind RI) false
 
+-- "20 NOT PERMITTED for the kind or for `ri` under `ri`"
+unfoldable pub barred : ℕ → Bool → ℕ → Bool
+barred minor named kind = cond (permitted kind minor) (riUnderRi named kind) true
+
 -- ---- "every list's entries must lie inside its own cell, which must be allocated"
 
 -- the cell at `p` is allocated and has the first `needed` bytes: not where its size word is "not negative, too small for the entries
@@ -42,14 +46,13 @@ listBytes s p = 8 + entrySize (kindAt s p) * countAt s p
 
 -- ---- "Refusals, after those of a single list in 01 and before it counts as read"
 
--- "20 NOT PERMITTED for the kind or for `ri` under `ri`, then 3". By document 01 a refusal's position is "0 for .. every number above
+-- 20, "then 3". By document 01 a refusal's position is "0 for .. every number above
 -- 16", and "the position of the list" for 3.
 unfoldable pub strictChecks : List ℕ → ℕ → Bool → ℕ → Paper (Unit {0})
 strictChecks s minor named p =
-    cond (not (permitted (kindAt s p) minor)) (refused (by NOT-PERMITTED 0))
-    (cond (riUnderRi named (kindAt s p)) (refused (by NOT-PERMITTED 0))
+    cond (barred minor named (kindAt s p)) (refused (by NOT-PERMITTED 0))
     (cond (not (ownCell s p (listBytes s p))) (refused (by BAD-SIZE p))
-    (success tt)))
+    (success tt))
 
 -- the list at a position, read strictly
 unfoldable pub strictAt : List ℕ → ℕ → Bool → ℕ → Paper Listed

@@ -4,11 +4,11 @@ use words::Refusal;
 use words::Verdict;
 ghost use mathlib.Core.Path.{_≡_};
 ghost use lib.ListN.{length};
-ghost use Prim.Native.Nat.{_+_, _-_, _≤_};
+ghost use Prim.Native.Nat.{_+_, _-_, _*_, _≤_};
 ghost use Rattle.words.specs.Words.{word16};
 ghost use Rattle.words.specs.Paper.{refused, by, andThen, verdictPaper};
-ghost use Rattle.sub_key_list.specs.Lists.{listPaper, listAt, entrySize};
-ghost use Rattle.sub_key_list.specs.Strict.{leastMinor, permitted, riUnderRi, ownCell, strictChecks, strictAt};
+ghost use Rattle.sub_key_list.specs.Lists.{listPaper, listAt, entrySize, countAt};
+ghost use Rattle.sub_key_list.specs.Strict.{leastMinor, permitted, riUnderRi, barred, ownCell, strictChecks, strictAt};
 
 // The kinds of list, each by the word of its two letters.
 const LF: u16 = 0x666c;
@@ -142,6 +142,17 @@ fn ri_under_ri(named: bool, kind: u16) -> bool
     if named { kind == RI } else { false }
 }
 
+// Whether a list is not permitted: for its kind, or as an `ri` list that an `ri` list names.
+fn bars(minor: u32, named: bool, kind: u16) -> bool
+    ensures { λ r. ⌜ r ≡ barred minor named kind ⌝ }
+{
+    if permits(minor, kind) {
+        ri_under_ri(named, kind)
+    } else {
+        true
+    }
+}
+
 // Whether the first bytes from a position on lie in an allocated cell of their own.
 fn own_cell(image: &[u8], position: usize, needed: usize) -> bool
     requires { ⌜ position + 4 ≤ length (now image) ⌝ }
@@ -154,6 +165,24 @@ fn own_cell(image: &[u8], position: usize, needed: usize) -> bool
     }
 }
 
+// Whether the list at a position, whose header is there, lies in an allocated cell of its own with all its entries.
+fn in_own_cell(image: &[u8], position: usize, kind: u16) -> bool
+    requires { ⌜ position + 8 ≤ length (now image) ⌝ }
+    ensures { λ r. ⌜ r ≡ ownCell (now (image .entry)) position (8 + entrySize kind * countAt (now (image .entry)) position) ⌝ }
+{
+    let number = half(image, position + 6);
+    let size = entry_size(kind);
+    let entries = (size as usize) * (number as usize);
+    own_cell(image, position, 8 + entries)
+}
+
+// A refusal by the strict profile.
+fn bar(number: u32, position: usize) -> Verdict
+    ensures { λ r. ⌜ verdictPaper r ≡ refused (by number position) ⌝ }
+{
+    Verdict::Refused(Refusal { number, position })
+}
+
 // What the strict profile asks of a list whose header is there, beyond that it can be read. `named` says whether an `ri` list names
 // it.
 fn strict_checks(image: &[u8], position: usize, minor: u32, named: bool) -> Verdict
@@ -161,26 +190,13 @@ fn strict_checks(image: &[u8], position: usize, minor: u32, named: bool) -> Verd
     ensures { λ r. ⌜ verdictPaper r ≡ strictChecks (now (image .entry)) minor named position ⌝ }
 {
     let kind = half(image, position + 4);
-    if !permits(minor, kind) {
-        return Verdict::Refused(Refusal {
-            number: words::NOT_PERMITTED,
-            position: 0,
-        });
+    let barred = bars(minor, named, kind);
+    let whole = in_own_cell(image, position, kind);
+    if barred {
+        return bar(words::NOT_PERMITTED, 0);
     }
-    if ri_under_ri(named, kind) {
-        return Verdict::Refused(Refusal {
-            number: words::NOT_PERMITTED,
-            position: 0,
-        });
-    }
-    let number = half(image, position + 6);
-    let size = entry_size(kind);
-    let entries = (size as usize) * (number as usize);
-    if !own_cell(image, position, 8 + entries) {
-        return Verdict::Refused(Refusal {
-            number: words::BAD_SIZE,
-            position,
-        });
+    if !whole {
+        return bar(words::BAD_SIZE, position);
     }
     Verdict::Whole
 }

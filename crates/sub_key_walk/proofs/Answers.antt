@@ -5,7 +5,7 @@ use mathlib.Core.Bool.{Bool, true, false}
 use Prim.Native.Nat.{ℕ, _+_, _≤_, _<_}
 use native.Mathlib.Nat.{zero-add}
 use native.Mathlib.Omega.{arith}
-use borrow.Author.Tests.{eq-eqb, ne-eqb, lt-ltb, le-ltb, eqb-true}
+use borrow.Author.Tests.{eq-eqb, ne-eqb, le-ltb, ltb-false, eqb-true}
 use lib.Dec.{ltb, eqb}
 use lib.ListN.{length, drop}
 use lib.Seq.{sets-eq}
@@ -25,7 +25,7 @@ use Rattle.sub_key_walk.specs.Judge.{fault, judge}
 use Rattle.sub_key_walk.specs.Answers.{BUDGET-LIMIT, COUNT-LIMIT, none, fromRecord, measured, fullOf, answerOf, reachedFor, reachedBy, keptBy, walkTold, walkPaper, WalkAnswered}
 use Rattle.sub_key_walk.specs.Leaf.{readOf, fullLeaf, leafAnswerOf, keptFrom, LeafAnsweredAs, LeafAnswered}
 use Rattle.sub_key_walk.specs.Free.{countsOf}
-use Rattle.sub_key_walk.specs.Walk.{Whole, Filled, Walk, Roomy}
+use Rattle.sub_key_walk.specs.Walk.{startFault, Whole, Filled, Roomy}
 use Rattle.sub_key_walk.specs.declared.Counts.{Counts}
 use Rattle.sub_key_walk.specs.declared.WalkRefusal.{WalkRefusal}
 use Rattle.sub_key_walk.specs.declared.WalkAnswer.{WalkAnswer}
@@ -51,24 +51,37 @@ pub record Started (count budget : ℕ) : Type 0 where
   pub some : count ≡ 0 → ⊥
 
 module _ (count budget : ℕ) (es : List Event) where
-  pub measured-budget : BUDGET-LIMIT < budget → refused (by BAD-BUDGET 0) ≡ fromRecord count budget es
-  unfolding fromRecord
-  measured-budget h = rw (lt-ltb BUDGET-LIMIT budget h)
-
-  pub measured-many : budget ≤ BUDGET-LIMIT → COUNT-LIMIT < count → refused (by TOO-MANY 0) ≡ fromRecord count budget es
-  unfolding fromRecord
-  measured-many b h = rw (le-ltb BUDGET-LIMIT budget b, lt-ltb COUNT-LIMIT count h)
-
-  pub measured-none : budget ≤ BUDGET-LIMIT → count ≤ COUNT-LIMIT → count ≡ 0 → success none ≡ fromRecord count budget es
-  unfolding fromRecord
-  measured-none b m h = rw (le-ltb BUDGET-LIMIT budget b, le-ltb COUNT-LIMIT count m, eq-eqb count 0 h)
-
   pub measured-walk : Started count budget → fromRecord count budget es ≡ judge budget none es
   unfolding fromRecord
   measured-walk d = rw (le-ltb BUDGET-LIMIT budget (d .small), le-ltb COUNT-LIMIT count (d .few), ne-eqb count 0 (d .some))
 
-  pub measured-by : Started count budget → {r : WalkAnswer} → Walk budget none es r → walkPaper r ≡ fromRecord count budget es
-  measured-by d w = w .answer ∙ sym (measured-walk d)
+  -- the same from what the code finds: `n` is the refusal before any list is reached, or 0
+  module _ {n : ℕ} (e : n ≡ startFault count budget) where
+    pub measured-fault : (n ≡ 0 → ⊥) → refused (by n 0) ≡ fromRecord count budget es
+    unfolding startFault fromRecord
+    measured-fault h = go (ltb BUDGET-LIMIT budget) (ltb COUNT-LIMIT count) refl refl
+      where
+        go : (a b : Bool) → ltb BUDGET-LIMIT budget ≡ a → ltb COUNT-LIMIT count ≡ b → refused (by n 0) ≡ fromRecord count budget es
+        go true b x y = rw (e, x)
+        go false true x y = rw (e, x, y)
+        go false false x y = absurd (h (rw (x, y) at e))
+
+    module _ (z : n ≡ 0) where
+      pub fault-none : (budget ≤ BUDGET-LIMIT) × (count ≤ COUNT-LIMIT)
+      unfolding startFault
+      fault-none = go (ltb BUDGET-LIMIT budget) (ltb COUNT-LIMIT count) refl refl
+        where
+          go : (a b : Bool) → ltb BUDGET-LIMIT budget ≡ a → ltb COUNT-LIMIT count ≡ b → (budget ≤ BUDGET-LIMIT) × (count ≤ COUNT-LIMIT)
+          go true b x y = let k : n ≡ BAD-BUDGET = rw x at e in absurd (omega arith)
+          go false true x y = let k : n ≡ TOO-MANY = rw (x, y) at e in absurd (omega arith)
+          go false false x y = (ltb-false _ _ x, ltb-false _ _ y)
+
+      pub measured-none : count ≡ 0 → success none ≡ fromRecord count budget es
+      unfolding fromRecord
+      measured-none h = rw (le-ltb BUDGET-LIMIT budget (fault-none .0), le-ltb COUNT-LIMIT count (fault-none .1), eq-eqb count 0 h)
+
+      pub measured-judge : (count ≡ 0 → ⊥) → {a : Paper Counts} → a ≡ judge budget none es → a ≡ fromRecord count budget es
+      measured-judge h w = w ∙ sym (measured-walk (record { small = fault-none .0; few = fault-none .1; some = h }))
 
 -- the lists reached from a key record: those of the walk, and none where the count is 0
 pub reached-walk : (count : ℕ) (es : List Event) → (count ≡ 0 → ⊥) → reachedFor count es ≡ es

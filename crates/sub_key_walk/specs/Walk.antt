@@ -4,16 +4,18 @@ use Prim.Native.Nat.{ℕ, _+_, _*_, _≤_, _<_}
 use mathlib.Core.Path.{_≡_}
 use mathlib.Core.List.{List}
 use mathlib.Core.Bool.{Bool, true, cond}
+use lib.Dec.{ltb}
 use lib.ListN.{length}
 use lib.Seq.{sets}
+use Rattle.words.specs.Refusals.{TOO-MANY, BAD-BUDGET}
 use Rattle.words.specs.Paper.{Paper, success}
 use Rattle.sub_key_list.specs.Lists.{Listed, leaf, listAt}
 use Rattle.sub_key_list.specs.Leaves.{leafDropped}
 use Rattle.sub_key_list.specs.declared.LeafList.{LeafList}
-use Rattle.sub_key_walk.specs.Trace.{Event, trace, ordinary, LEVELS, keptOf, droppedOf}
+use Rattle.sub_key_walk.specs.Trace.{Event, ordinary, keptOf, droppedOf}
 use Rattle.sub_key_walk.specs.Strict.{strict}
 use Rattle.sub_key_walk.specs.Judge.{counts, judge}
-use Rattle.sub_key_walk.specs.Answers.{walkPaper}
+use Rattle.sub_key_walk.specs.Answers.{BUDGET-LIMIT, COUNT-LIMIT, walkPaper}
 use Rattle.sub_key_walk.specs.declared.Counts.{Counts}
 use Rattle.sub_key_walk.specs.declared.LeafRead.{LeafRead}
 use Rattle.sub_key_walk.specs.declared.WalkAnswer.{WalkAnswer}
@@ -70,8 +72,11 @@ withLeaf st r = counts (st .kept + r .kept) (st .lists + 1) (st .entries + r .en
 abbrev pub reading : Bool → List ℕ → ℕ → ℕ → ℕ → Paper Listed
 reading strictly s minor levels p = cond strictly (strict s minor levels p) (ordinary s levels p)
 
-abbrev pub walkBy : Bool → List ℕ → ℕ → ℕ → ℕ → List Event
-walkBy strictly s base list minor = trace (reading strictly s minor) LEVELS s base list
+-- the refusal before any list is reached, by its number; 0 where there is none
+unfoldable pub startFault : ℕ → ℕ → ℕ
+startFault count budget =
+    cond (ltb BUDGET-LIMIT budget) BAD-BUDGET
+    (cond (ltb COUNT-LIMIT count) TOO-MANY 0)
 
 -- a walk over the lists `es` from the counts `st`: what it answers, and that its counts stay small
 pub record Walk (budget : ℕ) (st : Counts) (es : List Event) (r : WalkAnswer) : Type 0 where

@@ -12,10 +12,10 @@ ghost use Rattle.sub_key_list.specs.Lists.{listPaper};
 ghost use Rattle.sub_key_list.specs.Leaves.{keep, leafKept, dropOne, leafDropped, leafOf};
 ghost use Rattle.sub_key_walk.specs.Trace.{trace, ordinary, walkFrom, keptOf};
 ghost use Rattle.sub_key_walk.specs.Judge.{fault, counts, judge};
-ghost use Rattle.sub_key_walk.specs.Answers.{BUDGET-LIMIT, none, fromRecord, measured, walkTold, walkPaper, WalkAnswered};
+ghost use Rattle.sub_key_walk.specs.Answers.{BUDGET-LIMIT, none, measured, walkTold, walkPaper, WalkAnswered};
 ghost use Rattle.sub_key_walk.specs.Leaf.{readOf, LeafAnswered};
 ghost use Rattle.sub_key_walk.specs.Strict.{strictMeasured, StrictAnswered, StrictLeafAnswered};
-ghost use Rattle.sub_key_walk.specs.Walk.{Entries, Stands, Whole, Bound, Sized, Filled, Bounded, Small, withLeaf, reading, walkBy, Walk, Roomy};
+ghost use Rattle.sub_key_walk.specs.Walk.{startFault, Entries, Stands, Whole, Bound, Sized, Filled, Bounded, Small, withLeaf, reading, Walk, Roomy};
 
 // The greatest budget, the greatest count of subkeys or of values, and the levels of lists.
 const BUDGET_LIMIT: u32 = 65536;
@@ -638,38 +638,31 @@ fn fill_top(image: &[u8], base: u32, list: u32, whole: bool, out: &mut [u32]) ->
     fill(image, base, LEVELS, list, whole, out, 0)
 }
 
-// The walk from a key record with a subkey count and the offset of its list, strictly or in the ordinary way, with no regard to room.
-fn counts_by(
-    image: &[u8],
-    base: u32,
-    count: u32,
-    list: u32,
-    budget: u32,
-    strict: bool,
-    minor: u32,
-) -> WalkAnswer
-    ensures { λ r. ⌜ walkPaper r ≡ fromRecord count budget (walkBy strict (now (image .entry)) base list minor) ⌝ }
+// The refusal of a count or a budget before any list is reached, by its number; 0 where there is none.
+fn start_fault(count: u32, budget: u32) -> u32
+    ensures { λ r. ⌜ r ≡ startFault count budget ⌝ }
 {
     if BUDGET_LIMIT < budget {
-        return refuse(words::BAD_BUDGET, 0, 0);
+        return words::BAD_BUDGET;
     }
     if COUNT_LIMIT < count {
-        return refuse(words::TOO_MANY, 0, 0);
+        return words::TOO_MANY;
     }
-    if count == 0 {
-        return read_so_far(0, 0, 0, 0);
-    }
-    if strict {
-        return measure(image, base, budget, strict, minor, LEVELS, list, 0, 0, 0, 0);
-    }
-    measure_top(image, base, budget, list)
+    0
 }
 
 // What the walk from a key record with a subkey count and the offset of its list counts, with no regard to room. Nothing is written.
 pub fn sub_key_counts(image: &[u8], base: u32, count: u32, list: u32, budget: u32) -> WalkAnswer
     ensures { λ r. ⌜ walkPaper r ≡ measured (now (image .entry)) base count list budget ⌝ }
 {
-    counts_by(image, base, count, list, budget, false, 0)
+    let fault = start_fault(count, budget);
+    if fault != 0 {
+        return refuse(fault, 0, 0);
+    }
+    if count == 0 {
+        return read_so_far(0, 0, 0, 0);
+    }
+    measure_top(image, base, budget, list)
 }
 
 // What it counts with each list read strictly.
@@ -683,7 +676,14 @@ pub fn strict_sub_key_counts(
 ) -> WalkAnswer
     ensures { λ r. ⌜ walkPaper r ≡ strictMeasured (now (image .entry)) base count list budget minor ⌝ }
 {
-    counts_by(image, base, count, list, budget, true, minor)
+    let fault = start_fault(count, budget);
+    if fault != 0 {
+        return refuse(fault, 0, 0);
+    }
+    if count == 0 {
+        return read_so_far(0, 0, 0, 0);
+    }
+    measure(image, base, budget, true, minor, LEVELS, list, 0, 0, 0, 0)
 }
 
 // The subkeys of a key record with a subkey count and the offset of its list, into `out`.

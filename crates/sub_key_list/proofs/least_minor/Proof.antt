@@ -2,8 +2,6 @@ use borrow.Author.Tests.{eq-eqb, ne-eqb}
 use Rattle.sub_key_list.specs.Strict.{leastMinor}
 use Rattle.sub_key_list.proofs.least_minor.Statement.{statement}
 use Rattle.sub_key_list.proofs.least_minor.Tie as tie
-use Rattle.sub_key_list.proofs.least_minor.Reads as reads
-use Rattle.sub_key_list.proofs.least_minor.Lts as lts
 
 returns : tie.Need-returns
 unfolding leastMinor

@@ -3,9 +3,6 @@ use Rattle.sub_key_list.proofs.Strict.{own-held, own-none, small-held, 
 use borrow.Author.Needs.{needs}
 use Rattle.sub_key_list.proofs.own_cell.Statement.{statement}
 use Rattle.sub_key_list.proofs.own_cell.Tie as tie
-use Rattle.sub_key_list.proofs.own_cell.Reads as reads
-use Rattle.sub_key_list.proofs.own_cell.Lts as lts
-use Rattle.cell.proofs.cell_at.Reads as cell-at-reads
 
 cell-at-requires : tie.Need-cell-at-requires
 cell-at-requires c κs = search needs

@@ -2,9 +2,6 @@ use Rattle.sub_key_list.specs.Strict.{permitted}
 use borrow.Author.Needs.{needs}
 use Rattle.sub_key_list.proofs.permits.Statement.{statement}
 use Rattle.sub_key_list.proofs.permits.Tie as tie
-use Rattle.sub_key_list.proofs.permits.Reads as reads
-use Rattle.sub_key_list.proofs.permits.Lts as lts
-use Rattle.sub_key_list.proofs.least_minor.Reads as least-minor-reads
 
 least-minor-requires : tie.Need-least-minor-requires
 least-minor-requires c κs = search needs

@@ -1,8 +1,6 @@
 use Rattle.sub_key_list.specs.Strict.{riUnderRi}
 use Rattle.sub_key_list.proofs.ri_under_ri.Statement.{statement}
 use Rattle.sub_key_list.proofs.ri_under_ri.Tie as tie
-use Rattle.sub_key_list.proofs.ri_under_ri.Reads as reads
-use Rattle.sub_key_list.proofs.ri_under_ri.Lts as lts
 
 returns : tie.Need-returns
 unfolding riUnderRi

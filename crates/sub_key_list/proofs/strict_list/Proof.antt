@@ -4,10 +4,6 @@ use Rattle.sub_key_list.proofs.Strict.{list-header, strict-refused, str
 use borrow.Author.Needs.{needs}
 use Rattle.sub_key_list.proofs.strict_list.Statement.{statement}
 use Rattle.sub_key_list.proofs.strict_list.Tie as tie
-use Rattle.sub_key_list.proofs.strict_list.Reads as reads
-use Rattle.sub_key_list.proofs.strict_list.Lts as lts
-use Rattle.sub_key_list.proofs.read_list.Reads as read-list-reads
-use Rattle.sub_key_list.proofs.strict_of.Reads as strict-of-reads
 
 read-list-requires : tie.Need-read-list-requires
 read-list-requires c κs = search needs

@@ -4,9 +4,6 @@ use Rattle.words.proofs.Papers.{then-next, then-refused}
 use borrow.Author.Needs.{needs}
 use Rattle.sub_key_list.proofs.strict_of.Statement.{statement}
 use Rattle.sub_key_list.proofs.strict_of.Tie as tie
-use Rattle.sub_key_list.proofs.strict_of.Reads as reads
-use Rattle.sub_key_list.proofs.strict_of.Lts as lts
-use Rattle.sub_key_list.proofs.strict_checks.Reads as strict-checks-reads
 
 strict-checks-requires : tie.Need-strict-checks-requires
 strict-checks-requires c κs = search needs

@@ -8,4 +8,5 @@ pub mod Demand
 pub mod Dropped
 pub mod Profiles
 pub mod Examples
+pub mod StrictExamples
 pub mod Walk

@@ -24,7 +24,7 @@ use Rattle.sub_key_walk.specs.Trace.{Event, deep, index, leaf, each, bel
 use Rattle.sub_key_walk.specs.Judge.{fault, counts, counted, inBudget, one, after, judge}
 use Rattle.sub_key_walk.specs.Answers.{BUDGET-LIMIT, none, walkPaper}
 use Rattle.sub_key_walk.specs.Leaf.{readOf}
-use Rattle.sub_key_walk.specs.Walk.{Bounded, Small, withLeaf, Walk}
+use Rattle.sub_key_walk.specs.Walk.{Bounded, Small, soFar, withLeaf, Walk}
 use Rattle.sub_key_walk.specs.declared.Counts.{Counts}
 use Rattle.sub_key_walk.specs.declared.LeafRead.{LeafRead}
 use Rattle.sub_key_walk.specs.declared.WalkRefusal.{WalkRefusal}
@@ -164,6 +164,10 @@ walk-success w q = sym (w .answer) ∙ ap walkPaper q
 pub counts-path : {a b : Counts} → a .kept ≡ b .kept → a .lists ≡ b .lists → a .entries ≡ b .entries → a .dropped ≡ b .dropped → a ≡ b
 counts-path p q r d = λ i. record { kept = p i; lists = q i; entries = r i; dropped = d i }
 
+-- of small counts three tell the fourth
+so-far : {budget : ℕ} {t : Counts} → Bounded budget t → soFar (t .lists) (t .entries) (t .dropped) ≡ t
+so-far b = counts-path (omega (arith, b .every)) refl refl refl
+
 -- an `ri` list counts as a list and gives nothing else
 abbrev pub withIndex : Counts → Counts
 withIndex st = counts (st .kept) (st .lists + 1) (st .entries) (st .dropped)
@@ -196,10 +200,12 @@ module _ (budget : ℕ) (f : ℕ → List Event) (s : List ℕ) (n first : ℕ) 
           ap (λ (x : Paper Counts). after x (λ st′. judge budget st′ rest)) (sym q) ∙ sym (judge-append budget sum (f next) rest)
           ∙ ap (judge budget sum) (sym split) ∙ v .judged
 
-      pub indexing-step : (r : WalkAnswer) (t : Counts) → Walk budget sum (f next) r → r ≡ Read t → Indexing budget f s n first st t (pos + 4) (i + 1)
+      pub indexing-step : (r : WalkAnswer) (t : Counts) → Walk budget sum (f next) r → r ≡ Read t
+          → Indexing budget f s n first st (soFar (t .lists) (t .entries) (t .dropped)) (pos + 4) (i + 1)
       unfolding after
       indexing-step r t w q =
-          record { within = omega arith; near = omega (arith, v .near); judged = onward (success t) (walk-success w q); few = w .bounded t q }
+          subst (λ (u : Counts). Indexing budget f s n first st u (pos + 4) (i + 1)) (sym (so-far (w .bounded t q)))
+          (record { within = omega arith; near = omega (arith, v .near); judged = onward (success t) (walk-success w q); few = w .bounded t q })
 
       indexing-refused : {r : WalkAnswer} {x : Told} → Walk budget sum (f next) r → walkPaper r ≡ refused x → refused x ≡ judge budget st (each f s n first)
       unfolding after

@@ -1,6 +1,6 @@
 -- What the private functions promise: the loops over the entries of a leaf list, the walk that measures and the walk that fills. Of use
 -- inside this crate only.
-use Prim.Native.Nat.{ℕ, _+_, _*_, _≤_, _<_}
+use Prim.Native.Nat.{ℕ, _+_, _-_, _*_, _≤_, _<_}
 use mathlib.Core.Path.{_≡_}
 use mathlib.Core.List.{List}
 use mathlib.Core.Bool.{Bool, true, cond}
@@ -61,6 +61,10 @@ pub record Bounded (budget : ℕ) (st : Counts) : Type 0 where
 pub record Small (r : LeafRead) : Type 0 where
   pub every : r .kept + r .dropped ≡ r .entries
   pub few : r .entries ≤ 65535
+
+-- the counts after so many lists, entries and entries dropped: every other entry is kept
+abbrev pub soFar : ℕ → ℕ → ℕ → Counts
+soFar lists entries dropped = counts (entries - dropped) lists entries dropped
 
 -- the counts with a leaf list more, by what it gave
 abbrev pub withLeaf : Counts → LeafRead → Counts

@@ -15,7 +15,7 @@ ghost use Rattle.sub_key_walk.specs.Judge.{fault, counts, judge};
 ghost use Rattle.sub_key_walk.specs.Answers.{BUDGET-LIMIT, none, measured, walkTold, walkPaper, WalkAnswered};
 ghost use Rattle.sub_key_walk.specs.Leaf.{readOf, LeafAnswered};
 ghost use Rattle.sub_key_walk.specs.Strict.{strictMeasured, StrictAnswered, StrictLeafAnswered};
-ghost use Rattle.sub_key_walk.specs.Walk.{startFault, Entries, Stands, Whole, Bound, Sized, Filled, Bounded, Small, withLeaf, reading, Walk, Roomy};
+ghost use Rattle.sub_key_walk.specs.Walk.{startFault, Entries, Stands, Whole, Bound, Sized, Filled, Bounded, Small, withLeaf, soFar, reading, Walk, Roomy};
 
 // The greatest budget, the greatest count of subkeys or of values, and the levels of lists.
 const BUDGET_LIMIT: u32 = 65536;
@@ -487,8 +487,8 @@ fn list_by(image: &[u8], position: usize, strict: bool, minor: u32, levels: u32)
     }
 }
 
-// Measures the walk of the list at an offset, strictly or in the ordinary way, with so many levels left, after so many offsets kept,
-// lists read, entries and entries dropped.
+// Measures the walk of the list at an offset, strictly or in the ordinary way, with so many levels left, after so many lists read,
+// entries and entries dropped; every other entry is kept.
 fn measure(
     image: &[u8],
     base: u32,
@@ -497,13 +497,12 @@ fn measure(
     minor: u32,
     levels: u32,
     offset: u32,
-    kept: u32,
     lists: u32,
     entries: u32,
     dropped: u32,
 ) -> WalkAnswer
-    requires { ⌜ budget ≤ BUDGET-LIMIT ⌝ ∗ ⌜ Bounded budget (counts kept lists entries dropped) ⌝ }
-    ensures { λ r. ⌜ Walk budget (counts kept lists entries dropped) (trace (reading strict (now (image .entry)) minor) levels (now (image .entry)) base offset) r ⌝ }
+    requires { ⌜ budget ≤ BUDGET-LIMIT ⌝ ∗ ⌜ Bounded budget (soFar lists entries dropped) ⌝ }
+    ensures { λ r. ⌜ Walk budget (soFar lists entries dropped) (trace (reading strict (now (image .entry)) minor) levels (now (image .entry)) base offset) r ⌝ }
 {
     let position = (offset as usize) + (base as usize);
     if levels == 0 {
@@ -516,11 +515,11 @@ fn measure(
         SubKeyList::Refused(fault) => refuse(fault.number, fault.position, lists),
         SubKeyList::Leaf(leaf) => {
             let read = read_leaf(image, base, position, leaf);
+            let kept = entries - dropped;
             with_leaf(kept, lists, entries, dropped, read)
         }
         SubKeyList::Index(index) => {
             let count = index.count;
-            let mut k = kept;
             let mut l = lists + 1;
             let mut e = entries;
             let mut d = dropped;
@@ -536,7 +535,6 @@ fn measure(
                     minor,
                     levels - 1,
                     next,
-                    k,
                     l,
                     e,
                     d,
@@ -545,7 +543,6 @@ fn measure(
                         return WalkAnswer::Refused(fault);
                     }
                     WalkAnswer::Read(sum) => {
-                        k = sum.kept;
                         l = sum.lists;
                         e = sum.entries;
                         d = sum.dropped;
@@ -554,7 +551,7 @@ fn measure(
                 pos = pos + 4;
                 i = i + 1;
             }
-            read_so_far(k, l, e, d)
+            read_so_far(e - d, l, e, d)
         }
     }
 }
@@ -615,7 +612,7 @@ fn measure_top(image: &[u8], base: u32, budget: u32, list: u32) -> WalkAnswer
             SubKeyList::Refused(fault) => {}
         }
     }
-    measure(image, base, budget, false, 0, LEVELS, list, 0, 0, 0, 0)
+    measure(image, base, budget, false, 0, LEVELS, list, 0, 0, 0)
 }
 
 // Writes what the walk from the top list keeps, and gives the place behind it. A leaf list of which nothing is dropped is written at
@@ -680,10 +677,10 @@ pub fn strict_sub_key_counts(
     if fault != 0 {
         return refuse(fault, 0, 0);
     }
-    if count == 0 {
-        return read_so_far(0, 0, 0, 0);
+    if 0 < count {
+        return measure(image, base, budget, true, minor, LEVELS, list, 0, 0, 0);
     }
-    measure(image, base, budget, true, minor, LEVELS, list, 0, 0, 0, 0)
+    read_so_far(0, 0, 0, 0)
 }
 
 // The subkeys of a key record with a subkey count and the offset of its list, into `out`.

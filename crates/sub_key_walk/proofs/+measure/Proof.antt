@@ -5,8 +5,7 @@ use borrow.Author.Needs.{needs}
 use Rattle.sub_key_list.specs.Lists.{listPaper}
 use Rattle.sub_key_list.specs.declared.SubKeyList.{SubKeyList}
 use Rattle.sub_key_walk.specs.Trace.{trace}
-use Rattle.sub_key_walk.specs.Judge.{counts}
-use Rattle.sub_key_walk.specs.Walk.{reading}
+use Rattle.sub_key_walk.specs.Walk.{soFar, reading}
 use Rattle.sub_key_walk.proofs.Profiles.{reading-read}
 use Rattle.sub_key_walk.proofs.Traces.{entry-of-index}
 use Rattle.sub_key_walk.proofs.Walks.{Indexing, indexing-start, indexing-step, walk-deep, walk-spent, leaf-small, Reached, walk-bad, reached-small, walk-leaf, index-bounded, walk-index, walk-index-refused}
@@ -38,17 +37,17 @@ abbrev callees : ℕ → measure-lts.Claims
 callees t = (refuse-reads.Asked, refuse-reads.Learnt, list-by-reads.Asked, list-by-reads.Learnt, read-leaf-reads.Asked, read-leaf-reads.Learnt, with-leaf-reads.Asked, with-leaf-reads.Learnt, word-reads.Asked, word-reads.Learnt, measure-below t, measure.Post, read-so-far-reads.Asked, read-so-far-reads.Learnt)
 
 abbrev measure-Inv-loop : measure-lts.InvT-loop
-measure-Inv-loop image base budget strict minor levels offset kept lists entries dropped position count k₀ l₀ e₀ d₀ pos₀ i₀ k l e d pos i =
-    Indexing budget (trace (reading strict image minor) (levels - 1) image base) image count pos₀ (counts k₀ l₀ e₀ d₀) (counts k l e d) pos i
+measure-Inv-loop image base budget strict minor levels offset lists entries dropped position count l₀ e₀ d₀ pos₀ i₀ l e d pos i =
+    Indexing budget (trace (reading strict image minor) (levels - 1) image base) image count pos₀ (soFar l₀ e₀ d₀) (soFar l e d) pos i
 
 abbrev measure-μ-loop : measure-lts.MeasureT-loop
-measure-μ-loop image base budget strict minor levels offset kept lists entries dropped position count k₀ l₀ e₀ d₀ pos₀ i₀ k l e d pos i =
+measure-μ-loop image base budget strict minor levels offset lists entries dropped position count l₀ e₀ d₀ pos₀ i₀ l e d pos i =
     count - i
 
 -- what is known once the list is read, at what the code then finds there
 reached : (t : ℕ) (r : measure-lts.After-list-by (callees t) (measure-at t) measure.Post measure-Inv-loop measure-μ-loop) (g : SubKeyList) → r .list-by .result ≡ g →
     let a = r .before .before .before .before .args in
-    Reached (reading (a .strict) (a .image .now) (a .minor)) (a .budget) (counts (a .kept) (a .lists) (a .entries) (a .dropped)) (a .levels) (a .image .now) (a .base) (a .offset) g
+    Reached (reading (a .strict) (a .image .now) (a .minor)) (a .budget) (soFar (a .lists) (a .entries) (a .dropped)) (a .levels) (a .image .now) (a .base) (a .offset) g
 reached t r g e =
     record {
       deeper = r .before .before .if1 .left;
@@ -66,7 +65,7 @@ measure-refuse-requires t c κs = search needs
 measure-returns : (t : ℕ) → measure-lts.Need-returns (callees t) (measure-at t) measure.Post measure-Inv-loop measure-μ-loop
 measure-returns t c =
     let a = c .before .before .before .args in
-    walk-deep (reading (a .strict) (a .image .now) (a .minor)) (a .budget) (counts (a .kept) (a .lists) (a .entries) (a .dropped)) (a .levels) (a .image .now) (a .base) (a .offset) (c .refuse .ensures) (c .before .if1 .taken)
+    walk-deep (reading (a .strict) (a .image .now) (a .minor)) (a .budget) (soFar (a .lists) (a .entries) (a .dropped)) (a .levels) (a .image .now) (a .base) (a .offset) (c .refuse .ensures) (c .before .if1 .taken)
 
 measure-refuse-requires-2 : (t : ℕ) → measure-lts.Need-refuse-requires-2 (callees t) (measure-at t) measure.Post measure-Inv-loop measure-μ-loop
 measure-refuse-requires-2 t c κs = search needs
@@ -74,7 +73,7 @@ measure-refuse-requires-2 t c κs = search needs
 measure-returns-2 : (t : ℕ) → measure-lts.Need-returns-2 (callees t) (measure-at t) measure.Post measure-Inv-loop measure-μ-loop
 measure-returns-2 t c =
     let a = c .before .before .before .before .args in
-    walk-spent (reading (a .strict) (a .image .now) (a .minor)) (a .budget) (counts (a .kept) (a .lists) (a .entries) (a .dropped)) (a .levels) (a .image .now) (a .base) (a .offset) (c .refuse2 .ensures) (c .before .before .if1 .left) (c .before .if2 .taken)
+    walk-spent (reading (a .strict) (a .image .now) (a .minor)) (a .budget) (soFar (a .lists) (a .entries) (a .dropped)) (a .levels) (a .image .now) (a .base) (a .offset) (c .refuse2 .ensures) (c .before .before .if1 .left) (c .before .if2 .taken)
 
 measure-list-by-requires : (t : ℕ) → measure-lts.Need-list-by-requires (callees t) (measure-at t) measure.Post measure-Inv-loop measure-μ-loop
 measure-list-by-requires t c κs = search needs
@@ -92,6 +91,9 @@ measure-read-leaf-requires : (t : ℕ) → measure-lts.Need-read-leaf-requires (
 measure-read-leaf-requires t c κs =
     let a = c .before .before .before .before .before .before .before .args in
     reading-read (a .strict) (a .image .now) (a .minor) (a .levels) _ (reached t (c .before .before .before) _ (c .before .leaf .given .1) .is)
+
+measure-sub-kept : (t : ℕ) → measure-lts.Need-sub-kept (callees t) (measure-at t) measure.Post measure-Inv-loop measure-μ-loop
+measure-sub-kept t c = let every = c .before .before .before .before .before .before .before .before .pre .1 .1 .every in search needs
 
 measure-with-leaf-requires : (t : ℕ) → measure-lts.Need-with-leaf-requires (callees t) (measure-at t) measure.Post measure-Inv-loop measure-μ-loop
 measure-with-leaf-requires t c κs =
@@ -145,6 +147,9 @@ measure-loop-again : (t : ℕ) → measure-lts.Need-loop-again (callees t) (meas
 measure-loop-again t c =
     indexing-step _ _ _ _ _ _ _ _ _ (c .before .before .before .before .before .before .loop .inv) (c .before .before .before .before .before .loop-test .taken) _ (c .before .before .before .before .word .ensures) _ _ (c .before .before .before .measure .ensures) (c .before .sum .given .1)
 
+measure-sub-read-so-far : (t : ℕ) → measure-lts.Need-sub-read-so-far (callees t) (measure-at t) measure.Post measure-Inv-loop measure-μ-loop
+measure-sub-read-so-far t c = let every = c .before .loop .inv .few .every in search needs
+
 measure-read-so-far-requires : (t : ℕ) → measure-lts.Need-read-so-far-requires (callees t) (measure-at t) measure.Post measure-Inv-loop measure-μ-loop
 measure-read-so-far-requires t c κs = search needs
 
@@ -191,6 +196,7 @@ pub +measure-spec : {M : Type 1} → statement M
     (measure-refuse-requires-3 t)
     (measure-enum-known-leaf t)
     (measure-read-leaf-requires t)
+    (measure-sub-kept t)
     (measure-with-leaf-requires t)
     (measure-enum-known-index t)
     (measure-add-l t)
@@ -206,6 +212,7 @@ pub +measure-spec : {M : Type 1} → statement M
     (measure-add-i t)
     (measure-loop-less t)
     (measure-loop-again t)
+    (measure-sub-read-so-far t)
     (measure-read-so-far-requires t)
     (measure-returns-4 t)
     (measure-returns-5 t)

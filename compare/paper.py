@@ -15,8 +15,8 @@ import sys
 # "Refusal numbers"
 SHORT, OUTSIDE, BAD_SIZE, BAD_SIGN, BAD_NAME, NO_LIST, TOO_MANY, CUT_SHORT, NO_ROOM, BAD_BIN, BAD_CELL = range(1, 12)
 TOO_LARGE, BAD_BUDGET, TOO_DEEP, OUT_OF_STEPS, NOT_FOUND = range(12, 17)
-# document 02, orders 1, 6 and 7
-BAD_DATA, PAST_END, ALREADY_IN = 17, 18, 19
+# document 02, orders 1, 6, 7 and 9
+BAD_DATA, PAST_END, ALREADY_IN, NOT_PERMITTED = 17, 18, 19, 20
 
 MOST_COUNT = 1_048_576
 MOST_BUDGET = 65_536
@@ -27,10 +27,11 @@ class Refused(Exception):
     read so far. Other fields are 0, except that NO ROOM also returns the places needed and the walk's entry count." Document 02,
     order 2, of the number dropped: "with 9, given too". """
 
-    def __init__(self, number, position=0, lists=0, places=0, entries=0, dropped=0):
+    def __init__(self, number, position=0, lists=0, places=0, entries=0, dropped=0, why=None):
         super().__init__(number)
         self.number, self.position, self.lists, self.places, self.entries = number, position, lists, places, entries
-        self.dropped = dropped
+        # which of a number's reasons it was: no part of an answer, `stored.py` counts them
+        self.dropped, self.why = dropped, why
 
     def told(self):
         """The refusal of a walk or of one leaf list, whole."""
@@ -218,6 +219,37 @@ def one_list(image, position):
     return sign, each, count
 
 
+def ordinary(image, position, named):
+    """How the walk and one leaf list read a list: document 01 asks for nothing of who names it."""
+    return one_list(image, position)
+
+
+# Document 02, order 9: "`lf` is permitted above minor version 2, `lh` above 4". The other two kinds are not spoken of: they are permitted.
+PERMITTED_ABOVE = {b"lf": 2, b"lh": 4}
+
+
+def strict(minor):
+    """The same by the "strict profile beside the ordinary reading", of a hive of this minor version. `named`: an `ri` list names it."""
+
+    def read(image, position, named):
+        # "Refusals, after those of a single list in 01"
+        sign, each, count = one_list(image, position)
+        # "20 NOT PERMITTED for the kind or for `ri` under `ri`"; its position is 0: "every number above 16"
+        if sign in PERMITTED_ABOVE and minor <= PERMITTED_ABOVE[sign]:
+            raise Refused(NOT_PERMITTED, why="kind")
+        if sign == b"ri" and named:
+            raise Refused(NOT_PERMITTED, why="`ri` under `ri`")
+        # "then 3 for a size word that is not negative, too small for the entries or past the image"; "every list's entries must lie
+        # inside its own cell, which must be allocated". The entries stand at 8, and a list of none still has its 8 bytes.
+        word = signed(image, position)
+        for why, wrong in (("not negative", word >= 0), ("too small", -word < 8 + each * count), ("past the image", position - word > len(image))):
+            if wrong:
+                raise Refused(BAD_SIZE, position, why=why)
+        return sign, each, count
+
+    return read
+
+
 def kept_of(named, base):
     # "A leaf entry whose offset plus base is 4,294,967,296 or more is dropped; others are kept as that sum."
     return [x + base for x in named if x + base < 4_294_967_296]
@@ -229,10 +261,10 @@ def dropped_of(named, base):
     return sum(x + base >= 4_294_967_296 for x in named)
 
 
-def leaf(image, base, position, out):
-    """One leaf list by itself: no walk reads lists, so none is told."""
+def leaf(image, base, position, out, read=ordinary):
+    """One leaf list by itself: no walk reads lists, so none is told, and no `ri` list names it."""
     # the refusals of one list
-    sign, each, n = one_list(image, position)
+    sign, each, n = read(image, position, False)
     # 4: "a signature is not one expected": an `ri` list has no leaf entries
     if sign == b"ri":
         raise Refused(BAD_SIGN, position)
@@ -250,7 +282,7 @@ def leaf(image, base, position, out):
     return kept, n, dropped
 
 
-def walked(image, count, offset, base, budget):
+def walked(image, count, offset, base, budget, read=ordinary):
     """The walk with no regard to room: its refusals without 9."""
     # "From a key record: 13, then 7; count 0 succeeds and reads nothing."
     if budget > MOST_BUDGET:
@@ -269,10 +301,11 @@ def walked(image, count, offset, base, budget):
             raise Refused(TOO_DEEP, position, lists)
         if lists == budget:
             raise Refused(OUT_OF_STEPS, position, lists)
+        # order 9: "and before it counts as read"; below the top list is what an `ri` list names
         try:
-            sign, each, n = one_list(image, position)
+            sign, each, n = read(image, position, level > 1)
         except Refused as r:
-            raise Refused(r.number, r.position, lists) from None
+            raise Refused(r.number, r.position, lists, why=r.why) from None
         # "Then it counts as read." "A list reached twice counts twice."
         lists += 1
         named = [unsigned(image, position + 8 + each * i, 4) for i in range(n)]
@@ -289,8 +322,8 @@ def walked(image, count, offset, base, budget):
     return kept, lists, entries, dropped
 
 
-def walk(image, count, offset, base, budget, out):
-    kept, lists, entries, dropped = walked(image, count, offset, base, budget)
+def walk(image, count, offset, base, budget, out, read=ordinary):
+    kept, lists, entries, dropped = walked(image, count, offset, base, budget, read)
     # "9 comes after all others"; "the lists read so far"; "the places needed and the walk's entry count"; order 2: "with 9,
     # given too"
     if len(kept) > len(out):
@@ -888,7 +921,7 @@ def whole_value(image, position):
     return fields + [hexed(name)]
 
 
-def by_record(tag, a, c, d, e, name, image):
+def by_record(tag, a, b, c, d, e, name, image):
     """The walk, what it counts, the value list and the lookup from the key record at a position: its own counts and offsets."""
     try:
         key = key_record(image, a)
@@ -901,13 +934,36 @@ def by_record(tag, a, c, d, e, name, image):
         return answer(5, subkeys, subkey_list, c, d, e, name, image)
     if tag == 20:
         return answer(17, subkeys, subkey_list, c, d, e, name, image)
+    if tag == 31:
+        return answer(30, subkeys, subkey_list, c, d, e, b.to_bytes(4, "little"), image)
+    if tag == 34:
+        return answer(33, subkeys, subkey_list, c, d, b, name, image)
     return answer(8, values, value_list_at, c, d, e, name, image)
 
 
+# the tags of order 9, each with that of the ordinary reading, whose words stand in the same places
+STRICT = {29: 11, 30: 5, 31: 14, 32: 16, 33: 17, 34: 20}
+
+
+def minor_of(tag, b, d, e, name):
+    """Where a case of order 9 has the minor version; what a name lacks of four bytes is 0."""
+    return {29: b, 30: unsigned(name, 0, 4), 31: b, 32: d, 33: e, 34: b}[tag]
+
+
 def answer(tag, a, b, c, d, e, name, image):
+    said = answer_of(tag, a, b, c, d, e, name, image)
+    # "What strict accepts, ordinary reading answers identically." As its refusals come behind those of a list and before it counts as
+    # read, all that it does not refuse by 20 or 3 is as the ordinary reading has it, refusals too.
+    if tag in STRICT and (said[0] == "ok" or said[1] not in (NOT_PERMITTED, BAD_SIZE)):
+        assert said == answer_of(STRICT[tag], a, b, c, d, e, name, image)
+    return said
+
+
+def answer_of(tag, a, b, c, d, e, name, image):
     as_signed = lambda x: x - 2 ** 32 if x >= 2 ** 31 else x
-    if tag in (13, 14, 15, 20):
-        return by_record(tag, a, c, d, e, name, image)
+    read = strict(minor_of(tag, b, d, e, name)) if tag in STRICT else ordinary
+    if tag in (13, 14, 15, 20, 31, 34):
+        return by_record(tag, a, b, c, d, e, name, image)
     if tag == 22:
         try:
             fields, _ = value_record(image, a)
@@ -929,23 +985,23 @@ def answer(tag, a, b, c, d, e, name, image):
             return ["ok", len(entries)] + sums(entries) + [untouched(out, len(entries))]
         except Refused as r:
             return ["refused", r.number, r.position, r.places, untouched(out, 0)]
-    if tag == 5:
+    if tag in (5, 30):
         out = pattern[:e]
         try:
-            kept, lists, entries, dropped = walk(image, a, b, c, d, out)
+            kept, lists, entries, dropped = walk(image, a, b, c, d, out, read)
             return ["ok", len(kept), lists, entries, dropped] + sums(kept) + [untouched(out, len(kept))]
         except Refused as r:
             return r.told() + [untouched(out, 0)]
-    if tag == 16:
+    if tag in (16, 32):
         out = pattern[:e]
         try:
-            kept, entries, dropped = leaf(image, c, a + 2 ** 32 * b, out)
+            kept, entries, dropped = leaf(image, c, a + 2 ** 32 * b, out, read)
             return ["ok", len(kept), entries, dropped] + sums(kept) + [untouched(out, len(kept))]
         except Refused as r:
             return r.told() + [untouched(out, 0)]
-    if tag == 17:
+    if tag in (17, 33):
         try:
-            kept, lists, entries, dropped = walked(image, a, b, c, d)
+            kept, lists, entries, dropped = walked(image, a, b, c, d, read)
             return ["ok", len(kept), lists, entries, dropped]
         except Refused as r:
             return r.told()
@@ -979,8 +1035,9 @@ def answer(tag, a, b, c, d, e, name, image):
             return ["ok", name_hash(a & 0xFFFF, image)]
         if tag == 10:
             return ["ok"] + bins(image, a, b)
-        if tag == 11:
-            sign, each, count = one_list(image, a)
+        if tag in (11, 29):
+            # of tag 29 the word c is 1 where an `ri` list names the list
+            sign, each, count = read(image, a, c == 1)
             return ["ok", unsigned(sign, 0, 2), each, count]
         if tag == 12:
             # words past the end count as 0
@@ -1044,7 +1101,7 @@ def cases(read):
             length = words[0]
             image = None
         else:
-            if (tag in (4, 13) and words[3] > ROOM_MOST or tag in (5, 14, 16) and words[4] > ROOM_MOST
+            if (tag in (4, 13) and words[3] > ROOM_MOST or tag in (5, 14, 16, 30, 31, 32) and words[4] > ROOM_MOST
                     or tag == 19 and words[4] > BYTES_MOST or tag in (21, 22) and words[4] > DATA_MOST
                     or tag == 24 and words[4] > WIDE_MOST):
                 bad("room")

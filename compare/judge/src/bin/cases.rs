@@ -2,11 +2,12 @@
 //!   cases fixed > CASES                 boundaries, and short inputs exhaustively
 //!   cases hives SEED FILE.. > CASES     hives: all their records and lists, cuts and damaged copies
 //!   cases stored SEED FILE.. > CASES    a share of all of these, to be kept in the repository
-//!   cases stored-parts SEED FILE.. > CASES   the same of bins as they arrive, with each stored case of the whole check cut in parts, and of
-//!                                       totals beside the keys
+//!   cases stored-parts SEED FILE.. > CASES   the same of bins as they arrive, with each stored case of the whole check cut in parts, of
+//!                                       totals beside the keys, and of the strict profile
 //!   cases stored-rust SEED MARKS FILE.. > CASES   the same of what the Rust has; MARKS: a file with a 1 for each case to keep, 0
 //!                                       for each other, or `-` to keep all
 //!   cases SEED ROUNDS > CASES           random images rich in plausible lists and records, and damaged ones
+//!   cases strict SEED ROUNDS > CASES    of the fixed and of the random ones those about the strict profile alone
 //! Same words, same bytes. Uses nothing of the Rust that is tested, and no reading of the paper.
 use std::io::{BufWriter, Write};
 
@@ -40,7 +41,7 @@ impl Rng {
 
 const IMAGE_MOST: usize = 524_288;
 /// one more than the greatest tag of a case
-const TAGS: usize = 29;
+const TAGS: usize = 35;
 const ENOUGH: u32 = 1024;
 /// the greatest room for a value's data, and the bytes of it in one cell or one segment
 const DATA_MOST: u32 = 65_536;
@@ -67,6 +68,8 @@ struct Out<W: Write> {
     taken: usize,
     /// the words of the last walk whose counts were asked for, while the image stays
     counted: Option<[u32; 4]>,
+    /// the cases that were to be asked for once while the image stays
+    asked: Vec<(u8, Vec<u32>)>,
     /// of the value records of hives, the data of one in so many is asked for
     data_one_in: usize,
     records: usize,
@@ -78,7 +81,7 @@ type Checked = (u32, u32, Vec<u8>);
 impl<W: Write> Out<W> {
     fn new(to: W, one_in: [u64; TAGS], seed: u64) -> Self {
         let none = vec![0; IMAGE_MOST];
-        Out { to, words: [0; 5], name: vec![], has: none.clone(), has_length: 0, want: none, want_length: 0, changed: 0..0, one_in, pick: Rng(seed), marked: None, taken: 0, counted: None, data_one_in: 1, records: 0, checked: None, cases: 0 }
+        Out { to, words: [0; 5], name: vec![], has: none.clone(), has_length: 0, want: none, want_length: 0, changed: 0..0, one_in, pick: Rng(seed), marked: None, taken: 0, counted: None, asked: vec![], data_one_in: 1, records: 0, checked: None, cases: 0 }
     }
     fn put(&mut self, tag: u8, words: [u32; 5], name: Option<&[u8]>, image: Option<&[u8]>) {
         let mut mask = 0u8;
@@ -140,6 +143,7 @@ impl<W: Write> Out<W> {
     fn bytes(&mut self, at: usize, bytes: &[u8]) {
         let end = at + bytes.len();
         self.counted = None;
+        self.asked.clear();
         self.want[at..end].copy_from_slice(bytes);
         self.changed = if self.changed.is_empty() { at..end } else { self.changed.start.min(at)..self.changed.end.max(end) };
     }
@@ -162,7 +166,7 @@ impl<W: Write> Out<W> {
     }
     fn image(&mut self, image: &[u8]) { self.bytes(0, image); self.length(image.len()); }
     fn patch(&mut self, at: usize, bytes: &[u8]) { self.bytes(at, bytes); }
-    fn length(&mut self, n: usize) { self.counted = None; self.want_length = n; }
+    fn length(&mut self, n: usize) { self.counted = None; self.asked.clear(); self.want_length = n; }
     fn values(&mut self, count: u32, offset: u32, base: u32, room: u32) { self.case(4, &[count, offset, base, room], None); }
     /// A walk and, where it is taken, what it counts with no regard to room: once for the rooms that follow each other.
     fn walk(&mut self, count: u32, list: u32, base: u32, budget: u32, room: u32) {
@@ -218,6 +222,39 @@ impl<W: Write> Out<W> {
     fn calls(&mut self, calls: &[Call]) {
         let name: Vec<u8> = calls.iter().flatten().flat_map(|x| x.to_le_bytes()).collect();
         self.named(28, &[], &name);
+    }
+    /// A case that is asked for once while the image stays.
+    fn once(&mut self, tag: u8, words: &[u32]) {
+        let one = (tag, words.to_vec());
+        if !self.asked.contains(&one) && self.case(tag, words, None) { self.asked.push(one); }
+    }
+    /// One list strictly, for each of some minor versions, not named by an `ri` list and named by one; beside it the ordinary reading.
+    fn strict_list(&mut self, at: u32, minors: &[u32], named: &[u32]) {
+        self.once(11, &[at]);
+        for &minor in minors { for &named in named { self.case(29, &[at, minor, named], None); } }
+    }
+    /// A strict walk for each of some minor versions, and beside it the ordinary one.
+    fn strict_walk(&mut self, count: u32, list: u32, base: u32, budget: u32, room: u32, minors: &[u32]) {
+        let words = [count, list, base, budget, room];
+        self.once(5, &words);
+        for &minor in minors { self.named(30, &words, &minor.to_le_bytes()); }
+    }
+    /// What it counts, with no regard to room.
+    fn strict_counts(&mut self, count: u32, list: u32, base: u32, budget: u32, minors: &[u32]) {
+        self.once(17, &[count, list, base, budget]);
+        for &minor in minors { self.once(33, &[count, list, base, budget, minor]); }
+    }
+    /// One leaf list strictly, and beside it the ordinary reading.
+    fn strict_leaf(&mut self, at: u64, base: u32, room: u32, minors: &[u32]) {
+        let (low, high) = (at as u32, (at >> 32) as u32);
+        self.once(16, &[low, high, base, 0, room]);
+        for &minor in minors { self.case(32, &[low, high, base, minor, room], None); }
+    }
+    /// A strict walk and its counts from the key record at a position, and beside them the ordinary ones.
+    fn strict_record(&mut self, at: u32, base: u32, budget: u32, room: u32, minors: &[u32]) {
+        self.once(14, &[at, 0, base, budget, room]);
+        self.once(20, &[at, 0, base, budget]);
+        for &minor in minors { self.case(31, &[at, minor, base, budget, room], None); self.once(34, &[at, minor, base, budget]); }
     }
     fn lookup(&mut self, count: u32, offset: u32, base: u32, name: &[u8]) { self.named(8, &[count, offset, base], name); }
     fn named(&mut self, tag: u8, words: &[u32], name: &[u8]) {
@@ -970,7 +1007,7 @@ fn stored(o: &mut Out<impl Write>, seed: u64, files: &[String], rust: bool) {
 }
 
 /// The samples about bins as they arrive, which are stored by themselves: among them each case of the whole check that is stored. Behind
-/// them those about totals beside the keys.
+/// them those about totals beside the keys, and then those about the strict profile.
 fn stored_parts(o: &mut Out<impl Write>, seed: u64, files: &[String]) {
     let mut others = Out::new(std::io::sink(), [1; TAGS], 0);
     others.checked = Some(vec![]);
@@ -984,6 +1021,9 @@ fn stored_parts(o: &mut Out<impl Write>, seed: u64, files: &[String]) {
     totals(o, false);
     any_totals(o, &mut Rng(seed), 20, SMALL.0);
     hive_totals(o, &mut Rng(seed), files, 2);
+    strict(o, false);
+    any_strict(o, &mut Rng(seed), 3, SMALL.0);
+    hive_strict(o, &mut Rng(seed), files, 1, false);
 }
 
 // ---- hashes of names with units above 255: the ends of the ranges that have an upper case, words, and `random` others
@@ -2015,6 +2055,410 @@ fn hive_totals(o: &mut Out<impl Write>, r: &mut Rng, files: &[String], copies: u
     }
 }
 
+// ---- the strict profile
+
+/// Minor versions on both sides of those above which a kind is permitted, and the greatest.
+const MINORS: [u32; 8] = [0, 1, 2, 3, 4, 5, 6, u32::MAX];
+const KINDS: [&[u8; 2]; 4] = [b"lf", b"lh", b"li", b"ri"];
+
+/// The bytes of an entry of a kind.
+fn entry_of(kind: &[u8]) -> usize { if kind == b"lf" || kind == b"lh" { 8 } else { 4 } }
+
+/// The size words around those that hold so many bytes, and around those that end the cell where the image ends.
+fn cell_words(need: i32, left: i32) -> Vec<i32> {
+    let mut words = vec![-need, 1 - need, -need - 1, -((need + 7) & !7), -left, -left - 1, -left - need, need, left, 0, -1, i32::MIN, i32::MAX];
+    words.sort();
+    words.dedup();
+    words
+}
+
+/// The strict profile: each rule on both sides, alone, at the top and below it, and what comes first where several meet; the ordinary reading
+/// beside it. `more`: what is too much of the same to be stored.
+fn strict(o: &mut Out<impl Write>, more: bool) {
+    strict_kinds(o, more);
+    strict_cells(o, more);
+    strict_order(o, more);
+    strict_levels(o, more);
+    strict_far(o, more);
+    strict_records(o, more);
+    if more { strict_threes(o); }
+}
+
+/// Every kind for every minor version: alone, as the top list, and named by an `ri` list, first and behind others.
+fn strict_kinds(o: &mut Out<impl Write>, more: bool) {
+    let base = 16;
+    for kind in [b"lf", b"lh", b"li", b"ri", b"lx"] {
+        let minors = if kind == b"lx" && !more { &MINORS[4..6] } else { &MINORS[..] };
+        let mut m = vec![0x5a; 16 + 160];
+        if kind == b"ri" { list(&mut m, 16, kind, &[64], 1); } else { leaf_list(&mut m, 16, kind, &[7, 9], base); }
+        leaf_list(&mut m, 16 + 64, b"li", &[1, 2, 3], base);
+        list(&mut m, 16 + 96, b"ri", &[0, 64], 2);
+        list(&mut m, 16 + 120, b"ri", &[64, 64, 0], 3);
+        o.image(&m);
+        o.strict_list(16, minors, &[0, 1]);
+        for top in [0, 96, 120] {
+            o.strict_walk(1, top, base, BUDGET, 8, minors);
+            if more || top == 0 { o.strict_counts(1, top, base, BUDGET, minors); }
+        }
+        o.strict_leaf(16, base, 8, minors);
+        // what is not 1 says that no `ri` list names it
+        if more || kind == b"ri" { o.strict_list(16, &[5], &[2, 257, 1 << 16, u32::MAX]); }
+        // a minor version is a word of 32 bits
+        for minor in [0x0003_0000, 0x0500_0000, 258, 1 << 31] { if more || kind == b"lf" { o.strict_list(16, &[minor], &[0]); o.strict_walk(1, 0, base, BUDGET, 8, &[minor]); } }
+        // names that have less than a minor version, or more
+        if more || kind == b"lh" { for name in [&[][..], &[5], &[4], &[0, 1], &[4, 0, 0, 1], &[4, 0, 0, 0, 1], &[5, 0, 0, 0, 0, 0]] { o.named(30, &[1, 0, base, BUDGET, 8], name); } }
+    }
+}
+
+/// Size words: free cells, cells too small, exact, larger, up to the image's end and past it.
+fn strict_cells(o: &mut Out<impl Write>, more: bool) {
+    // an `li` list at 0, an `ri` list at 12 that names it, the list at hand and it again
+    let (p, tail) = (33usize, 11usize);
+    for kind in KINDS { for count in 0..4usize {
+        if !more && (count == 3 || kind == b"lh" && count != 1 || kind == b"ri" && count == 2) { continue; }
+        let need = 8 + entry_of(kind) * count;
+        let mut m = vec![0; p + need + tail];
+        list(&mut m, 0, b"li", &[3], 1);
+        list(&mut m, 12, b"ri", &[0, p as u32, 0], 3);
+        list(&mut m, p, kind, &vec![0; (need - 8) / 4], count as u16);
+        // with bytes behind the list, and with none
+        for n in [m.len(), p + need] {
+            if !more && n < m.len() && (count > 1 || kind == b"ri") { continue; }
+            o.image(&m);
+            o.length(n);
+            let left = n - p;
+            for word in cell_words(need as i32, left as i32) {
+                o.patch(p, &signed(word));
+                let whole = more || word == -(need as i32);
+                if whole { o.strict_list(p as u32, &[5], &[0]); } else { o.case(29, &[p as u32, 5, 0], None); }
+                if n < m.len() && !more { continue; }
+                let words = [1, p as u32, 0, BUDGET, 4];
+                if whole { o.strict_walk(1, p as u32, 0, BUDGET, 4, &[5]); } else if count == 1 { o.named(30, &words, &[5, 0, 0, 0]); }
+                if more || count == 1 && (kind == b"lf" || kind == b"li") { o.named(30, &[1, 12, 0, BUDGET, 5], &[5, 0, 0, 0]); }
+                if whole { o.strict_leaf(p as u64, 0, 4, &[5]); } else if count == 2 || count == 1 && kind == b"ri" { o.case(32, &[p as u32, 0, 0, 5, 4], None); }
+                if more || count == 1 && kind == b"li" { o.strict_counts(1, p as u32, 0, BUDGET, &[5]); }
+            }
+        }
+    } }
+    // 65,535 entries, in a cell that holds them, one that is a byte short, and one that ends a byte past the image
+    let mut m = vec![0; IMAGE_MOST];
+    for (kind, at) in [(b"li", 1000usize), (b"lh", 0), (b"lh", 1)] {
+        if !more && at != 1000 { continue; }
+        let need = 8 + 65535 * entry_of(kind) as i32;
+        list(&mut m, at, kind, &[], 65535);
+        o.image(&m);
+        if !more { o.length(at + need as usize + 5); }
+        let left = if more { (IMAGE_MOST - at) as i32 } else { need + 5 };
+        for word in [-need, 1 - need, -left, -left - 1, need] {
+            o.patch(at, &signed(word));
+            o.case(29, &[at as u32, 5, 0], None);
+            if more { o.strict_walk(1, at as u32, 0, BUDGET, 65535, &[5]); o.strict_leaf(at as u64, 0, 65534, &[5]); }
+        }
+        put32(&mut m, at, 0);
+    }
+}
+
+/// Which refusal comes first where several meet.
+fn strict_order(o: &mut Out<impl Write>, more: bool) {
+    // of one list: 2, 8, 4, 8, then 20, then 3
+    let p = 5usize;
+    let faults: [(&[u8; 2], u16, i32); 14] = [(b"lf", 1, 0), (b"lf", 1, 16), (b"lf", 1, -15), (b"lf", 1, -17), (b"lf", 2, -16), (b"lf", 2, 0), (b"lh", 1, -8), (b"lx", 1, 16), (b"lx", 9, 0), (b"ri", 1, 12), (b"ri", 2, -11), (b"ri", 9, 12), (b"li", 9, 12), (b"li", 2, -15)];
+    for (kind, count, word) in faults {
+        let mut m = vec![0x5a; p + 16];
+        list(&mut m, p, kind, &[1, 2], count);
+        put32(&mut m, p, word as u32);
+        o.image(&m);
+        let minors = if more { &MINORS[..] } else if kind == b"lf" { &MINORS[2..4] } else { &MINORS[4..5] };
+        o.strict_list(p as u32, minors, &[0, 1]);
+        o.strict_walk(1, p as u32, 0, BUDGET, 0, minors);
+        o.strict_leaf(p as u64, 0, 0, minors);
+        if !more && (kind != b"lf" || word != 0) { continue; }
+        for n in [p - 1, p, p + 7, p + 8, p + 15] { o.length(n); o.strict_list(p as u32, minors, &[0]); o.strict_walk(1, p as u32, 0, BUDGET, 1, minors); }
+        o.length(p + 16);
+        // the walk's own before it: 13, 7, a count of 0, 15
+        for (count, budget) in [(1, BUDGET + 1), ((1 << 20) + 1, BUDGET), ((1 << 20) + 1, BUDGET + 1), (1 << 20, BUDGET), (0, 0), (1, 0), (1, 1)] {
+            o.strict_walk(count, p as u32, 0, budget, 1, minors);
+            o.strict_counts(count, p as u32, 0, budget, minors);
+        }
+    }
+    // of a walk: lists that are read, of three kinds; then others
+    let mut m = vec![0; 16 + 280];
+    leaf_list(&mut m, 16, b"li", &[1, 2], 16);
+    leaf_list(&mut m, 16 + 24, b"lf", &[3], 16);
+    leaf_list(&mut m, 16 + 48, b"lh", &[4], 16);
+    for (at, kind, count, word) in [(72, b"li", 1, 12i32), (88, b"li", 1, -11), (104, b"li", 1, -400), (120, b"ri", 1, -12), (136, b"ri", 1, 12), (152, b"lx", 1, 12), (168, b"li", 999, 12), (184, b"lf", 1, 0), (208, b"lf", 1, -16)] {
+        list(&mut m, 16 + at, kind, &[0, 7], count);
+        put32(&mut m, 16 + at, word as u32);
+    }
+    let top = |o: &mut Out<_>, named: &[u32]| { let mut m = m.clone(); list(&mut m, 16 + 232, b"ri", named, named.len() as u16); o.image(&m); };
+    let n = m.len() as u32 - 16;
+    for fault in [72, 88, 104, 120, 136, 152, 168, 184, n + 1, n - 7] {
+        for named in [&[fault][..], &[0, 24, fault, 48], &[fault, 72], &[0, 0, 0, fault]] {
+            if !more && (named.len() == 1 && fault > 120 || named.len() == 2 || named.starts_with(&[0, 0, 0]) && fault != 104) { continue; }
+            top(o, named);
+            let before = 1 + named.iter().position(|&x| x == fault).unwrap_or(0) as u32;
+            // with budget enough, with just enough to reach it, and with enough to read it
+            for budget in [BUDGET, before, before + 1] { if more || budget != before + 1 || fault == 72 { o.strict_walk(1, 232, 16, budget, 9, &[5]); } }
+            if more || named.len() == 4 && (fault < 88 || fault == 120 || fault == 184) { o.strict_counts(1, 232, 16, BUDGET, &[5]); o.strict_walk(1, 232, 16, BUDGET, 0, &[5, 2]); }
+        }
+    }
+    // kinds that are mixed: which of them is the first that is not permitted, and a size word before and behind it
+    for named in [&[0, 24, 48][..], &[48, 24, 0], &[208, 0, 48, 24], &[24, 72, 0], &[72, 24, 0], &[48, 184], &[184, 48]] {
+        top(o, named);
+        o.strict_walk(1, 232, 16, BUDGET, 9, if more || named.len() == 3 { &MINORS } else { &MINORS[2..6] });
+        if more || named == [0, 24, 48] { for budget in 1..5 { o.strict_walk(1, 232, 16, budget, 9, &MINORS[2..6]); } }
+        for room in 0..6 { if more || named == [0, 24, 48] { o.strict_walk(1, 232, 16, 4, room, &[4, 5]); } }
+    }
+}
+
+/// `ri` lists under `ri` lists, from level 2 on; and under one that names itself.
+fn strict_levels(o: &mut Out<impl Write>, more: bool) {
+    for base in [0usize, 16] { for depth in 1..=10usize { for around in [false, true] { for leaf in [b"li", b"lh"] {
+        if !more && (base > 0 || around && ![1, 2, 8, 9].contains(&depth) || leaf == b"lh" && depth != 2) { continue; }
+        o.image(&chain(base, depth, around, leaf));
+        for budget in [BUDGET, 1, 2, 0, 8] { if more || budget == BUDGET || budget == 1 || depth == 2 { o.strict_walk(1, 0, base as u32, budget, 1, &[5]); } }
+        if more || depth % 4 == 1 { o.strict_counts(1, 0, base as u32, BUDGET, &[0]); }
+        // from the chain's end on: a leaf list by itself, one below an `ri` list, and so on
+        for up in 0..depth { if more || depth == 9 && !around { o.strict_walk(1, 32 * up as u32, base as u32, BUDGET, 1, &[5]); o.case(29, &[(base + 32 * up) as u32, 5, (up > 0) as u32], None); } }
+    } } } }
+    // many lists below one `ri` list, and the last of them an `ri` list
+    for n in [8usize, 40] {
+        let mut m = vec![0; 8 + 4 * (n + 1) + 64];
+        let (leaf, other) = (8 + 4 * (n as u32 + 1), 8 + 4 * (n as u32 + 1) + 32);
+        leaf_list(&mut m, leaf as usize, b"li", &[5, 6], 0);
+        list(&mut m, other as usize, b"ri", &[leaf], 1);
+        for last in [leaf, other] {
+            let mut named = vec![leaf; n];
+            named.push(last);
+            list(&mut m, 0, b"ri", &named, named.len() as u16);
+            o.image(&m);
+            for (budget, room) in [(BUDGET, 100), (n as u32 + 2, 2 * n as u32 + 2), (n as u32 + 1, 100), (n as u32 + 3, 2 * n as u32)] { o.strict_walk(1, 0, 0, budget, room, &[0]); o.strict_counts(1, 0, 0, budget, &[0]); }
+        }
+    }
+}
+
+/// Positions and sums on both sides of 2^32, entries that are dropped, and rooms on both sides of what is kept.
+fn strict_far(o: &mut Out<impl Write>, more: bool) {
+    const HIGH: u64 = 1 << 32;
+    // `p` is a list's position, and so is what would be left of a sum of more than 32 bits
+    let p = 21usize;
+    for kind in [b"li", b"lf", b"ri"] { for base in [0u32, 21, 22, 1 << 31, u32::MAX] {
+        if !more && (base == 1 << 31 || kind == b"lf" && base != 21 && base != u32::MAX || kind == b"ri" && base != 21 && base != 22) { continue; }
+        let top = u32::MAX - base;
+        let mut m = vec![0; p + 8 + 8 * 3];
+        leaf_list(&mut m, p, kind, &[top, top.wrapping_add(1), 7], base);
+        if kind == b"ri" { list(&mut m, p, kind, &[(p as u32).wrapping_sub(base), 0], 2); }
+        o.image(&m);
+        let minors = if kind == b"lf" { &[2, 3][..] } else { &[0][..] };
+        let list = (p as u32).wrapping_sub(base);
+        for budget in [1, 2] { if more || kind == b"ri" || budget == 1 { o.strict_walk(1, list, base, budget, 3, minors); } }
+        for off in [u32::MAX, list.wrapping_add(1), top, 0] { if more || kind == b"li" { o.strict_walk(1, off, base, BUDGET, 3, minors); } }
+        for at in [p as u64, HIGH + p as u64, HIGH - 1, u64::MAX - 31, u64::MAX] { if more || kind == b"li" && base != 22 { o.strict_leaf(at, base, 3, minors); } }
+        for at in [u32::MAX, m.len() as u32, m.len() as u32 + 1, m.len() as u32 - 8] { if more || base == 0 { o.strict_list(at, minors, &[0, 1]); } }
+        // the three entries of which some are dropped
+        for room in 0..4 {
+            if more || base == 21 || base == u32::MAX { o.strict_leaf(p as u64, base, room, minors); }
+            if more || base == 21 { o.strict_walk(1, 0, base, 1, room, minors); }
+        }
+    } }
+    // an `ri` list names a list past 2^32, whose position less 2^32 is a list's (16), before and behind one that is read
+    let mut m = vec![0; 64 + 64];
+    leaf_list(&mut m, 16, b"li", &[3], 64);
+    leaf_list(&mut m, 64 + 32, b"li", &[1, u32::MAX - 63], 64);
+    for named in [[32, u32::MAX - 47], [u32::MAX - 47, 32], [32, u32::MAX], [32, u32::MAX - 63], [32, 32]] {
+        list(&mut m, 64, b"ri", &named, 2);
+        o.image(&m);
+        for room in [0, 1, 2, 3] { if more || named == [32, 32] || room == 3 { o.strict_walk(2, 0, 64, BUDGET, room, &[0]); } }
+        o.strict_counts(2, 0, 64, BUDGET, &[0]);
+    }
+    // two lists that drop, of two kinds
+    let mut m = vec![0; 16 + 96];
+    list(&mut m, 16, b"ri", &[24, 56], 2);
+    leaf_list(&mut m, 16 + 24, b"lh", &[5, u32::MAX - 15, u32::MAX - 16], 16);
+    leaf_list(&mut m, 16 + 56, b"li", &[u32::MAX, 6], 16);
+    o.image(&m);
+    for room in 0..5 { o.strict_walk(9, 0, 16, 3, room, &[4, 5]); }
+    o.strict_counts(9, 0, 16, 3, &[4, 5]);
+}
+
+/// From a key record: its own count and list, and its own refusals first.
+fn strict_records(o: &mut Out<impl Write>, more: bool) {
+    let mut m = vec![0x11; 200];
+    key_head(&mut m, 0, -88, b"nk", 4);
+    // volatile subkeys, values and what else stands beside count and list are others
+    for (at, x) in [(24, 2u32), (28, 0), (32, 96), (36, 136), (40, 1), (44, 0)] { put32(&mut m, at, x); }
+    leaf_list(&mut m, 100, b"lf", &[7, 9], 4);
+    leaf_list(&mut m, 140, b"li", &[1], 4);
+    o.image(&m);
+    o.strict_record(0, 4, 1, 2, &MINORS);
+    for room in [0, 1, 3] { o.strict_record(0, 4, 1, room, &[2, 3]); }
+    for budget in [0, BUDGET, BUDGET + 1] { o.strict_record(0, 4, budget, 2, &[3]); }
+    for base in [0, 3, 44, 104, 105, u32::MAX] { o.strict_record(0, base, 1, 2, &[3]); }
+    for at in [1, 100, 121, 200, 201, u32::MAX] { o.strict_record(at, 4, 1, 2, &[2, 3][..if more { 2 } else { 1 }]); }
+    // its numbers, its own size, signature and name; the list's size word, kind and count
+    let faults: [(usize, Vec<u8>); 20] = [(24, vec![0; 4]), (24, vec![0, 0, 16, 0]), (24, vec![1, 0, 16, 0]), (32, vec![136, 0, 0, 0]), (32, vec![192, 0, 0, 0]), (32, vec![189, 0, 0, 0]), (32, vec![0; 4]),
+        (0, signed(88).to_vec()), (0, signed(-79).to_vec()), (0, signed(-201).to_vec()), (4, b"vk".to_vec()), (76, vec![9]),
+        (100, signed(24).to_vec()), (100, signed(-23).to_vec()), (100, signed(-100).to_vec()), (100, signed(-101).to_vec()), (104, b"lh".to_vec()), (104, b"ri".to_vec()), (104, b"lx".to_vec()), (106, vec![0, 1])];
+    for (at, bytes) in faults {
+        o.patch(at, &bytes);
+        o.strict_record(0, 4, 2, 2, if more { &MINORS } else if at < 24 { &[2] } else { &[2, 5] });
+        o.patch(at, &m[at..at + bytes.len()]);
+    }
+}
+
+/// Every image of three lists of 16 bytes, an `ri` list first, with up to two entries that name one of the three; in some the second list's
+/// cell is free, or the third's a byte short.
+fn strict_threes(o: &mut Out<impl Write>) {
+    let mut one: Vec<(&[u8; 2], u16, [u32; 2])> = vec![];
+    for kind in [b"ri", b"li", b"lh"] { for count in 0..3u16 {
+        if kind == b"lh" && count == 2 { continue; }
+        for x in 0..3u32.pow(if kind == b"ri" { count as u32 } else { 0 }) { one.push((kind, count, [16 * (x % 3), 16 * (x / 3 % 3)])); }
+    } }
+    let mut m = vec![0; 48];
+    for x in &one { for y in &one {
+        if x.0 != b"ri" || x.1 == 0 { continue; }
+        for z in &one {
+            list(&mut m, 0, x.0, &x.2, x.1);
+            list(&mut m, 16, y.0, &y.2, y.1);
+            list(&mut m, 32, z.0, &z.2, z.1);
+            for (second, third) in [(-16, -16), (16, -16), (-16, -15)] {
+                put32(&mut m, 16, second as u32);
+                put32(&mut m, 32, third as u32);
+                o.image(&m);
+                o.strict_walk(1, 0, 0, BUDGET, ENOUGH, &[4, 5]);
+                if third == -15 { o.strict_walk(1, 0, 0, 2, ENOUGH, &[5]); o.strict_counts(1, 0, 0, 3, &[5]); }
+            }
+        }
+    } }
+}
+
+/// A size word of a list, most of them such that its cell holds its entries; `fault`: one that a strict reading refuses, or nearly does.
+fn any_word(r: &mut Rng, need: i32, left: i32, fault: bool) -> i32 {
+    if fault {
+        return match r.below(8) { 0 | 1 => need, 2 => 1 - need, 3 => -(need - r.range(1, need as usize) as i32), 4 => -left - 1, 5 => -left - r.range(1, 99) as i32, 6 => -left, _ => r.pick(&[0, 8, -1, -7, -8, i32::MIN, i32::MAX, left]) };
+    }
+    match r.below(4) { 0 => -((need + 7) & !7).min(left.max(need)), 1 => -(r.range(need as usize, left.max(need) as usize) as i32), _ => -need }
+}
+
+/// Random images with lists, of at most so many bytes: most of them as a strict reading has it, and then with a few faults.
+fn any_strict(o: &mut Out<impl Write>, r: &mut Rng, random: u64, most: usize) {
+    for _ in 0..random {
+        let base = r.pick(&[0usize, 0, 4, 16, 31, 32, most / 4]);
+        let (mut m, places) = lists(r, base, most);
+        let whole: Vec<usize> = places.iter().copied().filter(|&p| p + 8 <= m.len()).collect();
+        let leaves: Vec<usize> = whole.iter().copied().filter(|&p| &m[p + 4..p + 6] != b"ri").collect();
+        // in every other image leaf lists of one kind; `ri` lists name leaf lists, most of them
+        let alike = r.pick(&[None, Some(b"li"), Some(b"lf"), None]);
+        let index = r.pick(&[4u64, 40, 40, 400]);
+        for &p in &whole {
+            let count = get16(&m, p + 6) as usize;
+            if &m[p + 4..p + 6] == b"ri" {
+                if leaves.is_empty() { continue; }
+                for at in (0..count).map(|i| p + 8 + 4 * i) { if at + 4 <= m.len() && !r.chance(index) { let x = r.pick(&leaves); put32(&mut m, at, (x - base) as u32); } }
+                continue;
+            }
+            if let Some(kind) = alike { if entry_of(&m[p + 4..p + 6]) >= entry_of(kind) { m[p + 4..p + 6].copy_from_slice(kind); } }
+            let each = entry_of(&m[p + 4..p + 6]);
+            for at in (0..count).map(|i| p + 8 + each * i) { if at + 4 <= m.len() && r.chance(9) { let x = (u32::MAX - base as u32 - 1).wrapping_add(r.below(4) as u32); put32(&mut m, at, x); } }
+        }
+        // a key record behind them, in most images one that is read
+        let record = m.len();
+        let with_key = r.chance(2);
+        if with_key {
+            m.resize(record + 88, 0x11);
+            key(r, &mut m, record, b"key", 0x20, -88);
+            let list = if r.chance(12) { r.word() } else if r.chance(8) || whole.is_empty() { (m.len() - r.range(0, 12)) as u32 } else { (r.pick(&whole) - base) as u32 };
+            put32(&mut m, record + 32, list);
+            if r.chance(4) { let (at, x) = (record + r.pick(&[0, 1, 4, 5, 24, 26, 27, 76]), r.next() as u8); m[at] = x; }
+        }
+        let faults = r.pick(&[0usize, 0, 1, 1, 2, 9]);
+        let wrong: Vec<usize> = (0..faults).filter(|_| !whole.is_empty()).map(|_| r.pick(&whole)).collect();
+        for &p in &whole {
+            let need = 8 + entry_of(&m[p + 4..p + 6]) * get16(&m, p + 6) as usize;
+            let word = any_word(r, need as i32, (m.len() - p) as i32, wrong.contains(&p));
+            put32(&mut m, p, word as u32);
+        }
+        o.image(&m);
+        let b = base as u32;
+        // the greatest versions, which permit all, as often as all others
+        let minor = |r: &mut Rng| match r.below(8) { 0 => r.word(), 1..=4 => r.pick(&[5, 5, 6, u32::MAX]), _ => r.below(5) as u32 };
+        let ask = |o: &mut Out<_>, r: &mut Rng, list: u32, few: bool| {
+            let minors = [minor(r)];
+            let (budget, room, count) = (r.below(9) as u32, r.below(20) as u32, 1 + r.below(9) as u32);
+            o.strict_walk(count, list, b, BUDGET, ENOUGH, &minors);
+            o.strict_counts(count, list, b, BUDGET, &minors);
+            if few { return; }
+            let minors = [minors[0], minor(r)];
+            o.strict_walk(count, list, b, budget, ENOUGH, &minors);
+            o.strict_walk(count, list, b, BUDGET, room, &minors);
+            o.strict_counts(count, list, b, budget, &minors);
+            if r.chance(6) { let (count, budget) = r.pick(&[(count, BUDGET + 1), ((1 << 20) + 1, BUDGET), (0, budget), (1 << 20, BUDGET), (u32::MAX, u32::MAX)]); o.strict_walk(count, list, b, budget, room, &minors); o.strict_counts(count, list, b, budget, &minors); }
+        };
+        for &p in &places {
+            let (named, room) = (r.pick(&[0, 1, 1, 2]), r.pick(&[ENOUGH, 0, 1, 3, 7]));
+            let minors = [minor(r), minor(r)];
+            o.strict_list(p as u32, &minors, &[named]);
+            o.strict_leaf(p as u64, b, room, &minors[..1]);
+            ask(o, r, (p - base) as u32, false);
+        }
+        for _ in 0..3 {
+            let off = r.range(0, m.len() + 4) as u32;
+            ask(o, r, off.saturating_sub(b), true);
+            let minors = [minor(r)];
+            o.strict_list(off, &minors, &[0]);
+            o.strict_leaf(off as u64 + if r.chance(8) { 1 << 32 } else { 0 }, b, ENOUGH, &minors);
+        }
+        if with_key {
+            for at in [record as u32, record as u32, record as u32, (record + r.range(0, 90)) as u32] {
+                let (budget, room, minors) = (r.pick(&[BUDGET, BUDGET, BUDGET, 1, 2, 3, BUDGET + 1]), r.pick(&[ENOUGH, ENOUGH, 0, 4]), [minor(r), minor(r)]);
+                o.strict_record(at, b, budget, room, &minors);
+            }
+        }
+        // one byte of a list's header changed, and the walk again
+        for &p in places.iter().take(4) {
+            let at = p + r.range(0, 9);
+            if at < m.len() {
+                let x = if r.chance(2) { r.next() as u8 } else { m[at] ^ (1 << r.below(8)) };
+                o.patch(at, &[x]);
+                for &q in places.iter().take(2) { ask(o, r, (q - base) as u32, true); }
+                let minors = [minor(r)];
+                o.strict_list(p as u32, &minors, &[0, 1]);
+                o.patch(at, &m[at..at + 1]);
+            }
+        }
+    }
+}
+
+/// Hives: their keys and lists, for minor versions on both sides and their own; as they are and in so many damaged copies. `more`: every key.
+fn hive_strict(o: &mut Out<impl Write>, r: &mut Rng, files: &[String], copies: usize, more: bool) {
+    for f in files {
+        let file = std::fs::read(f).expect(f);
+        let m = &file[..file.len().min(IMAGE_MOST)];
+        let own = get32(m, 24);
+        let found = |signs: &[&[u8]]| -> Vec<usize> { (4096..m.len().saturating_sub(80)).step_by(8).filter(|&p| signs.contains(&&m[p + 4..p + 6])).collect() };
+        let (keys, lists) = (found(&[b"nk"]), found(&[b"lf", b"lh", b"li", b"ri"]));
+        o.image(m);
+        for &p in lists.iter().take(if more { usize::MAX } else { 1 }) {
+            o.strict_list(p as u32, &MINORS, &[0]);
+            o.strict_leaf(p as u64, 4096, ENOUGH, &[2, 4, own]);
+            o.strict_walk(1, (p - 4096) as u32, 4096, 1024, ENOUGH, if more { &MINORS } else { &MINORS[2..6] });
+            o.strict_counts(1, (p - 4096) as u32, 4096, 1024, &[own]);
+        }
+        for &p in keys.iter().take(if more { usize::MAX } else { 3 }) { o.strict_record(p as u32, 4096, 1024, ENOUGH, &[own, 2]); }
+        for _ in 0..copies {
+            o.image(m);
+            for _ in 0..r.range(1, 3) {
+                let p = r.pick(&lists);
+                let at = match r.below(4) { 0 => p + r.range(4, 9), 1 => r.pick(&keys) + r.pick(&[0, 24, 32, 33]), _ => p + r.range(0, 3) };
+                let x = if r.chance(2) { r.next() as u8 } else { m[at] ^ (1 << r.below(8)) };
+                o.patch(at, &[x]);
+            }
+            for &p in lists.iter().take(if more { 20 } else { 2 }) { o.strict_list(p as u32, &[own], &[0, 1]); o.strict_walk(1, (p - 4096) as u32, 4096, 1024, ENOUGH, &[own, 5]); }
+            for &p in keys.iter().take(if more { 30 } else { 2 }) { o.strict_record(p as u32, 4096, 1024, ENOUGH, &[own]); }
+        }
+    }
+}
+
 // ---- value data
 
 /// A part of a chain that is made wrong: where, and the bytes there.
@@ -2512,16 +2956,17 @@ fn main() {
     let to = BufWriter::with_capacity(1 << 16, std::io::stdout().lock());
     let mut o = Out::new(to, [1; TAGS], 0);
     match (args.first().map(|s| s.as_str()), number(0), number(1)) {
-        (Some("fixed"), _, _) => { boundaries(&mut o); fixed(&mut o); wide(&mut o); long_leaves(&mut o); cells(&mut o, &mut Rng(0), 0); puts(&mut o, &mut Rng(0), 0); leaves(&mut o, &mut Rng(0), 0, 0); data_edges(&mut o, true); steps(&mut o, true); deleted(&mut o, true); letters(&mut o); arriving(&mut o, true); records_between(&mut o, true); short_names(&mut o); totals(&mut o, true) }
-        (Some("hives"), _, Some(seed)) => { hives(&mut o, &mut Rng(seed), &args[2..], 12, 40); hive_bins(&mut o, &mut Rng(seed), &args[2..], 40); hive_parts(&mut o, &mut Rng(seed), &args[2..], 40); hive_totals(&mut o, &mut Rng(seed), &args[2..], 40) }
+        (Some("fixed"), _, _) => { boundaries(&mut o); fixed(&mut o); wide(&mut o); long_leaves(&mut o); cells(&mut o, &mut Rng(0), 0); puts(&mut o, &mut Rng(0), 0); leaves(&mut o, &mut Rng(0), 0, 0); data_edges(&mut o, true); steps(&mut o, true); deleted(&mut o, true); letters(&mut o); arriving(&mut o, true); records_between(&mut o, true); short_names(&mut o); totals(&mut o, true); strict(&mut o, true) }
+        (Some("hives"), _, Some(seed)) => { hives(&mut o, &mut Rng(seed), &args[2..], 12, 40); hive_bins(&mut o, &mut Rng(seed), &args[2..], 40); hive_parts(&mut o, &mut Rng(seed), &args[2..], 40); hive_totals(&mut o, &mut Rng(seed), &args[2..], 40); hive_strict(&mut o, &mut Rng(seed), &args[2..], 40, true) }
         (Some("stored"), _, Some(seed)) => stored(&mut o, seed, &args[2..], false),
         (Some("stored-parts"), _, Some(seed)) => stored_parts(&mut o, seed, &args[2..]),
         (Some("stored-rust"), _, Some(seed)) => {
             if args[2] != "-" { o.marked = Some(std::fs::read(&args[2]).expect("a list of marks")); }
             stored(&mut o, seed, &args[3..], true)
         }
-        (_, Some(seed), Some(n)) => { rounds(&mut o, &mut Rng(seed), n, USUAL); cells(&mut o, &mut Rng(seed), 10 * n); puts(&mut o, &mut Rng(seed), 10 * n); leaves(&mut o, &mut Rng(seed), n, USUAL.0); datas(&mut o, &mut Rng(seed), 4 * n); dropping(&mut o, &mut Rng(seed), n, USUAL.0); any_steps(&mut o, &mut Rng(seed), n); any_keys(&mut o, &mut Rng(seed), n); any_letters(&mut o, &mut Rng(seed), 10 * n); any_parts(&mut o, &mut Rng(seed), n); any_totals(&mut o, &mut Rng(seed), n, USUAL.0) }
-        _ => { eprintln!("usage: cases fixed | hives SEED FILE.. | stored SEED FILE.. | stored-parts SEED FILE.. | stored-rust SEED MARKS FILE.. | SEED ROUNDS"); std::process::exit(2) }
+        (Some("strict"), _, Some(seed)) => { strict(&mut o, true); any_strict(&mut o, &mut Rng(seed), number(2).unwrap_or(0), USUAL.0) }
+        (_, Some(seed), Some(n)) => { rounds(&mut o, &mut Rng(seed), n, USUAL); cells(&mut o, &mut Rng(seed), 10 * n); puts(&mut o, &mut Rng(seed), 10 * n); leaves(&mut o, &mut Rng(seed), n, USUAL.0); datas(&mut o, &mut Rng(seed), 4 * n); dropping(&mut o, &mut Rng(seed), n, USUAL.0); any_steps(&mut o, &mut Rng(seed), n); any_keys(&mut o, &mut Rng(seed), n); any_letters(&mut o, &mut Rng(seed), 10 * n); any_parts(&mut o, &mut Rng(seed), n); any_totals(&mut o, &mut Rng(seed), n, USUAL.0); any_strict(&mut o, &mut Rng(seed), n, USUAL.0) }
+        _ => { eprintln!("usage: cases fixed | hives SEED FILE.. | stored SEED FILE.. | stored-parts SEED FILE.. | stored-rust SEED MARKS FILE.. | strict SEED ROUNDS | SEED ROUNDS"); std::process::exit(2) }
     }
     o.to.flush().unwrap();
     eprintln!("{} cases", o.cases);

@@ -1,10 +1,12 @@
 // The functions of the project, each called with what a case gives it, and its answer written out.
+use super::buffers;
 use super::lines;
 use super::lines::refused;
 use super::parts;
 use super::places;
 use super::totals;
-use super::totals::walk_refused;
+use super::walks;
+use super::walks::joined;
 use base_block::BaseBlock;
 use base_block::BlockAnswer;
 use base_block::Checksum;
@@ -23,9 +25,6 @@ use hive_bin::Spot;
 use hive_bin::Step;
 use name_hash::HashAnswer;
 use replay_case::Case;
-use sub_key_list::SubKeyList;
-use sub_key_walk::LeafAnswer;
-use sub_key_walk::WalkAnswer;
 use value_data::DataAnswer;
 use words::RoomRefusal;
 
@@ -153,91 +152,6 @@ fn values_of(image: &[u8], case: Case, out: &mut [u32]) {
     }
 }
 
-fn walk_line(answer: WalkAnswer, out: &[u32]) {
-    match answer {
-        WalkAnswer::Read(counts) => {
-            lines::text(b" ok");
-            lines::word(counts.kept);
-            lines::word(counts.lists);
-            lines::word(counts.entries);
-            lines::word(counts.dropped);
-            places::written(out, counts.kept);
-        }
-        WalkAnswer::Refused(refusal) => {
-            walk_refused(refusal);
-            places::untouched(out, 0);
-        }
-    }
-}
-
-fn walk(image: &[u8], case: Case, out: &mut [u32]) {
-    places::prefill(out);
-    let answer = sub_key_walk::sub_keys(image, case.c, case.a, case.b, case.d, out);
-    walk_line(answer, out);
-}
-
-fn walk_of(image: &[u8], case: Case, out: &mut [u32]) {
-    match cell_key_node::read_key_node(image, case.a as usize) {
-        KeyAnswer::Key(key) => {
-            places::prefill(out);
-            let answer = cell_key_node::sub_keys_of(image, case.c, key, case.d, out);
-            walk_line(answer, out);
-        }
-        KeyAnswer::Refused(refusal) => refused(refusal),
-    }
-}
-
-fn leaf_line(answer: LeafAnswer, out: &[u32]) {
-    match answer {
-        LeafAnswer::Read(read) => {
-            lines::text(b" ok");
-            lines::word(read.kept);
-            lines::word(read.entries);
-            lines::word(read.dropped);
-            places::written(out, read.kept);
-        }
-        LeafAnswer::Refused(refusal) => {
-            walk_refused(refusal);
-            places::untouched(out, 0);
-        }
-    }
-}
-
-// The position has 64 bits, the words a and b.
-fn leaf(image: &[u8], case: Case, out: &mut [u32]) {
-    places::prefill(out);
-    let position = joined(case.a, case.b);
-    let answer = sub_key_walk::leaf_sub_keys(image, case.c, position, out);
-    leaf_line(answer, out);
-}
-
-fn counts_line(answer: WalkAnswer) {
-    match answer {
-        WalkAnswer::Read(counts) => {
-            lines::text(b" ok");
-            lines::word(counts.kept);
-            lines::word(counts.lists);
-            lines::word(counts.entries);
-            lines::word(counts.dropped);
-        }
-        WalkAnswer::Refused(refusal) => walk_refused(refusal),
-    }
-}
-
-fn counts(image: &[u8], case: Case) {
-    counts_line(sub_key_walk::sub_key_counts(image, case.c, case.a, case.b, case.d));
-}
-
-fn counts_of(image: &[u8], case: Case) {
-    match cell_key_node::read_key_node(image, case.a as usize) {
-        KeyAnswer::Key(key) => {
-            let answer = cell_key_node::sub_key_counts_of(image, case.c, key, case.d);
-            counts_line(answer);
-        }
-        KeyAnswer::Refused(refusal) => refused(refusal),
-    }
-}
-
 fn key_fields(key: KeyNode) {
     lines::signed(key.size);
     lines::flag(key.allocated);
@@ -342,11 +256,6 @@ fn hash(flags: u16, name: &[u8]) {
     }
 }
 
-// A number of 64 bits, of two of a case's words.
-fn joined(low: u32, high: u32) -> usize {
-    low as usize + 4294967296 * (high as usize)
-}
-
 // Where a reader of cells stands: the words a and b are the bin's start, c and d the place.
 fn spot_of(case: Case) -> Spot {
     Spot {
@@ -374,17 +283,17 @@ fn deleted_line(answer: DeletedAnswer, out: &[u64]) {
     match answer {
         DeletedAnswer::Listed(count) => {
             lines::text(b" ok");
-            places::written_wide(out, count);
+            buffers::written_wide(out, count);
         }
         DeletedAnswer::Refused(refusal) => {
             room_refused(refusal);
-            places::untouched_wide(out, 0);
+            buffers::untouched_wide(out, 0);
         }
     }
 }
 
 fn deleted(image: &[u8], case: Case, out: &mut [u64]) {
-    places::prefill_wide(out);
+    buffers::prefill_wide(out);
     let answer = deleted_keys::deleted_keys(image, case.a, case.b, out);
     deleted_line(answer, out);
 }
@@ -398,22 +307,6 @@ fn with_wide(case: Case, image: &[u8]) {
         return;
     }
     deleted(image, case, &mut wide[0..n]);
-}
-
-fn list(image: &[u8], position: usize) {
-    match sub_key_list::read_list(image, position) {
-        SubKeyList::Leaf(leaf) => {
-            lines::text(b" ok");
-            lines::half(leaf.signature);
-            lines::number(leaf.entry_size as u64);
-            lines::half(leaf.count);
-        }
-        SubKeyList::Index(index) => {
-            lines::text(b" ok 26994 4");
-            lines::half(index.count);
-        }
-        SubKeyList::Refused(refusal) => refused(refusal),
-    }
 }
 
 fn words_at(image: &[u8], at: usize) {
@@ -456,12 +349,12 @@ fn put_number(case: Case, out: &mut [u8]) -> bool {
 }
 
 fn put_line(case: Case, out: &mut [u8]) {
-    places::prefill_bytes(out);
+    buffers::prefill_bytes(out);
     let written = put_number(case, out);
     lines::text(b" ok");
     lines::flag(written);
     lines::row(out);
-    places::untouched_bytes(out);
+    buffers::untouched_bytes(out);
 }
 
 fn put(case: Case) {
@@ -483,12 +376,12 @@ fn data_line(answer: DataAnswer, out: &[u8]) {
         DataAnswer::Refused(refusal) => room_refused(refusal),
     }
     lines::row(out);
-    places::untouched_bytes(out);
+    buffers::untouched_bytes(out);
 }
 
 // By the words a and b as a record's numbers, or by the record at the position a.
 fn data(image: &[u8], case: Case, out: &mut [u8]) {
-    places::prefill_bytes(out);
+    buffers::prefill_bytes(out);
     let answer = value_data::value_data(image, case.c, case.d, case.a, case.b, out);
     data_line(answer, out);
 }
@@ -496,7 +389,7 @@ fn data(image: &[u8], case: Case, out: &mut [u8]) {
 fn data_of(image: &[u8], case: Case, out: &mut [u8]) {
     match cell_key_value::read_key_value(image, case.a as usize) {
         ValueAnswer::Value(value) => {
-            places::prefill_bytes(out);
+            buffers::prefill_bytes(out);
             let answer = value_data::value_data_of(image, case.c, case.d, value, out);
             data_line(answer, out);
         }
@@ -519,19 +412,16 @@ fn with_bytes(tag: u8, case: Case, image: &[u8]) {
     }
 }
 
-// A case that has a buffer, with its first places lent.
-fn with_room(tag: u8, case: Case, image: &[u8], out: &mut [u32], room: u32) {
-    let n = room as usize;
+// A value list, which has a buffer, with its first places lent.
+fn with_room(tag: u8, case: Case, image: &[u8], out: &mut [u32]) {
+    let n = case.d as usize;
     if out.len() < n {
         lines::text(b" bad room");
         return;
     }
     match tag {
         4 => values(image, case, &mut out[0..n]),
-        5 => walk(image, case, &mut out[0..n]),
-        13 => values_of(image, case, &mut out[0..n]),
-        16 => leaf(image, case, &mut out[0..n]),
-        _ => walk_of(image, case, &mut out[0..n]),
+        _ => values_of(image, case, &mut out[0..n]),
     }
 }
 
@@ -540,25 +430,18 @@ pub fn answer(tag: u8, case: Case, image: &[u8], name: &[u8], out: &mut [u32]) {
         1 => checksum(image),
         2 => block(image),
         3 => big_data(image),
-        4 => with_room(tag, case, image, out, case.d),
-        5 => with_room(tag, case, image, out, case.e),
+        4 | 13 => with_room(tag, case, image, out),
+        5 | 11 | 14 | 16 | 17 | 20 | 29..=34 => walks::answer(tag, case, image, name, out),
         6 => key(image, case.a as usize),
         7 => value(image, case.a as usize),
         8 => lookup(image, case, name),
         9 => hash((case.a % 65536) as u16, image),
         10 => parts::bins_line(hive_bin::check_bins(image, case.a, case.b)),
-        11 => list(image, case.a as usize),
         12 => words_at(image, case.a as usize),
-        13 => with_room(tag, case, image, out, case.d),
-        14 => with_room(tag, case, image, out, case.e),
         15 => lookup_of(image, case, name),
-        16 => with_room(tag, case, image, out, case.e),
-        17 => counts(image, case),
         18 => cell_line(cell::cell_at(image, case.a as usize, case.b as usize)),
         19 => put(case),
-        20 => counts_of(image, case),
-        21 => with_bytes(tag, case, image),
-        22 => with_bytes(tag, case, image),
+        21 | 22 => with_bytes(tag, case, image),
         23 => step_line(cell_reader::tell(image, spot_of(case))),
         24 => with_wide(case, image),
         25 => step_line(hive_bin::step_at(image, spot_of(case))),

@@ -1,11 +1,13 @@
 // Replays a stream of cases (compare/README.md): a whole line for each, of what the project's functions answer. The stored cases
 // have the answers of document 01 as compare/paper.py reads it.
 mod answers;
+mod buffers;
 mod lines;
 mod parts;
 mod places;
 mod stream;
 mod totals;
+mod walks;
 
 fn main() {
     let mut image = [0u8; 524288];

@@ -2,11 +2,11 @@ use Prim.Native.Nat.{_≤_, _-_}
 use mathlib.Core.Path.{_≡_}
 use lib.ListN.{length}
 use borrow.Author.Needs.{needs}
-use Rattle.replay_paper.proofs.places.prefill_wide.Statement.{statement}
-use Rattle.replay_paper.proofs.places.prefill_wide.Tie as tie
-use Rattle.replay_paper.proofs.places.prefill_wide.Reads as reads
-use Rattle.replay_paper.proofs.places.prefill_wide.Lts as lts
-use Rattle.std.proofs.num.wrapping_add_u64.Reads as wrapping-add-u64-reads
+use Rattle.replay_parts.proofs.places.prefill.Statement.{statement}
+use Rattle.replay_parts.proofs.places.prefill.Tie as tie
+use Rattle.replay_parts.proofs.places.prefill.Reads as reads
+use Rattle.replay_parts.proofs.places.prefill.Lts as lts
+use Rattle.std.proofs.num.wrapping_add_u32.Reads as wrapping-add-u32-reads
 
 abbrev Inv-loop : tie.InvT-loop
 Inv-loop out₀ x₀ i₀ out x i = (i ≤ length out₀) × (length out ≡ length out₀)
@@ -14,50 +14,50 @@ Inv-loop out₀ x₀ i₀ out x i = (i ≤ length out₀) × (length out ≡ len
 abbrev μ-loop : tie.MeasureT-loop
 μ-loop out₀ x₀ i₀ out x i = length out₀ - i
 
--- src/places.rt:37:5
+-- src/places.rt:11:5
 loop-holds : tie.Need-loop-holds Inv-loop μ-loop
 loop-holds c = search needs
 
--- src/places.rt:38:9
-wrapping-add-u64-requires : tie.Need-wrapping-add-u64-requires Inv-loop μ-loop
-wrapping-add-u64-requires c κs = search needs
+-- src/places.rt:12:9
+wrapping-add-u32-requires : tie.Need-wrapping-add-u32-requires Inv-loop μ-loop
+wrapping-add-u32-requires c κs = search needs
 
--- src/places.rt:39:9
+-- src/places.rt:13:9
 mul-out : tie.Need-mul-out Inv-loop μ-loop
 mul-out c = search needs
 
--- src/places.rt:39:9
+-- src/places.rt:13:9
 slice-write-out : tie.Need-slice-write-out Inv-loop μ-loop
 slice-write-out c = search needs
 
--- src/places.rt:40:9
+-- src/places.rt:14:9
 add-i : tie.Need-add-i Inv-loop μ-loop
 add-i c = search needs
 
--- src/places.rt:37:5
+-- src/places.rt:11:5
 loop-less : tie.Need-loop-less Inv-loop μ-loop
 loop-less c = search needs
 
--- src/places.rt:37:5
+-- src/places.rt:11:5
 loop-again : tie.Need-loop-again Inv-loop μ-loop
 loop-again c = search needs
 
--- src/places.rt:34:1
+-- src/places.rt:8:1
 same-length : tie.Need-same-length Inv-loop μ-loop
 same-length c = search needs
 
--- src/places.rt:34:1
+-- src/places.rt:8:1
 returns : tie.Need-returns Inv-loop μ-loop
 returns c = search needs
 
-pub prefill-wide-spec : {M : Type 1} → statement M
-prefill-wide-spec =
+pub prefill-spec : {M : Type 1} → statement M
+prefill-spec =
     tie.close
     (tie.spec
     Inv-loop
     μ-loop
     loop-holds
-    wrapping-add-u64-requires
+    wrapping-add-u32-requires
     mul-out
     slice-write-out
     add-i

@@ -1,7 +1,7 @@
 #!/usr/bin/env python3
 """compare/stored.py SEED HIVE..: what the stored cases are, for compare/STORED.md. Exit 1 where a refusal of a function, or a success or
-a refusal by 9 with entries dropped, or a refusal of a call on a table, is not among them, or where bins in parts end in another answer than the
-whole check's."""
+a refusal by 9 with entries dropped, or a refusal of a call on a table, or a reason of the strict profile's refusals, is not among them, or where
+bins in parts end in another answer than the whole check's."""
 import collections
 import os
 import sys
@@ -12,19 +12,25 @@ NAMES = {1: "checksum", 2: "base block", 3: "`is_big_data_block`", 4: "value lis
          8: "lookup", 9: "name hash", 10: "bins and cells", 11: "one list", 12: "words", 13: "a record's value list",
          14: "a record's subkeys", 15: "a record's lookup", 16: "a leaf list", 17: "a walk's counts",
          18: "a cell", 19: "a number written", 20: "a record's counts", 21: "a value's data", 22: "a record's value data",
-         23: "a step of the reader", 24: "deleted keys", 25: "a step of the bins", 26: "bins in parts", 27: "one part on a record", 28: "totals beside the keys"}
+         23: "a step of the reader", 24: "deleted keys", 25: "a step of the bins", 26: "bins in parts", 27: "one part on a record", 28: "totals beside the keys",
+         29: "one list, strictly", 30: "subkey walk, strictly", 31: "a record's subkeys, strictly", 32: "a leaf list, strictly",
+         33: "a walk's counts, strictly", 34: "a record's counts, strictly"}
 # what documents 01 and 02 let each function be refused by
 REFUSALS = {1: [1], 2: [1, 4], 4: [2, 6, 7, 8, 9], 5: [2, 4, 7, 8, 9, 13, 14, 15], 6: [1, 2, 3, 4, 5], 7: [1, 2, 3, 4, 5],
             8: [1, 2, 3, 4, 5, 6, 7, 8, 16], 9: [5], 10: [8, 10, 11], 11: [2, 4, 8], 16: [2, 4, 8, 9],
             17: [2, 4, 7, 8, 13, 14, 15], 18: [2, 8], 20: [1, 2, 3, 4, 7, 8, 13, 15],
             21: [2, 4, 8, 9, 17], 22: [1, 2, 3, 4, 5, 8, 9, 17], 23: [10, 11], 24: [8, 9, 10, 11], 25: [10, 11],
-            26: [8, 10, 11, 18], 27: [8, 10, 11, 18]}
+            26: [8, 10, 11, 18], 27: [8, 10, 11, 18],
+            29: [2, 3, 4, 8, 20], 30: [2, 3, 4, 7, 8, 9, 13, 15, 20], 31: [1, 2, 3, 4, 5, 7, 8, 9, 13, 15, 20], 32: [2, 3, 4, 8, 9, 20],
+            33: [2, 3, 4, 7, 8, 13, 15, 20], 34: [1, 2, 3, 4, 5, 7, 8, 13, 15, 20]}
+# why the strict profile refuses a list by 20 and by 3; one leaf list is named by no `ri` list
+REASONS = {20: ["kind", "`ri` under `ri`"], 3: ["not negative", "too small", "past the image"]}
 # the calls on a table of totals, and what 02 lets each be refused by: a key record's own refusals come first where it is read
 WALKED, READ = [2, 4, 7, 8, 13, 14, 15], [1, 2, 3, 4, 5]
 CALLS = {0: ("a key added", WALKED + [9, 19]), 8: ("the same, its record read", READ + [7, 8, 9, 13, 14, 15, 19]), 1: ("replaced", WALKED + [16]),
          9: ("the same, its record read", READ + [7, 8, 13, 14, 15, 16]), 2: ("removed", [16]), 3: ("an entry read", [16]), 4: ("the total", [])}
 # where an `ok` line of each function that drops entries tells how many; where a refusal by 9 does, and which of them have a buffer
-DROPPED, DROPPED_BY_9, WITH_ROOM = {5: 5, 14: 5, 16: 4, 17: 5, 20: 5}, 7, (5, 14, 16)
+DROPPED, DROPPED_BY_9, WITH_ROOM = {5: 5, 14: 5, 16: 4, 17: 5, 20: 5, 30: 5, 31: 5, 32: 4, 33: 5, 34: 5}, 7, (5, 14, 16, 30, 31, 32)
 
 
 def counted(path):
@@ -72,13 +78,41 @@ def rows_of_calls(crate):
     return counts, by_calls
 
 
-def dropping(path):
-    """Of each function, how many lines tell of entries dropped: successes, and refusals by 9."""
-    counts = {tag: collections.Counter() for tag in DROPPED}
+def why_refused(tag, a, b, c, d, e, name, image):
+    """Of a strict case: the number and the reason of its refusal, where the strict profile gave it."""
+    read = reader.strict(reader.minor_of(tag, b, d, e, name))
+    try:
+        if tag == 29:
+            read(image, a, c == 1)
+        elif tag == 32:
+            reader.leaf(image, c, a + 2 ** 32 * b, [], read)
+        elif tag in (31, 34):
+            key = reader.key_record(image, a)
+            reader.walked(image, key[6], key[8], c, d, read)
+        else:
+            reader.walked(image, a, b, c, d, read)
+    except reader.Refused as r:
+        return (r.number, r.why) if r.why else None
+    return None
+
+
+def reasons(crate):
+    """Of each strict function, how many refusals there are of each number and reason."""
+    counts = collections.defaultdict(collections.Counter)
+    with open(f"crates/{crate}/stdin", "rb") as stdin:
+        for case in reader.cases(stdin.read):
+            if case[0] in reader.STRICT:
+                counts[case[0]][why_refused(*case)] += 1
+    return counts
+
+
+def dropping(path, tags):
+    """Of these functions, how many lines tell of entries dropped: successes, and refusals by 9."""
+    counts = {tag: collections.Counter() for tag in tags}
     for line in open(path):
         words = line.split()
         tag, answer = int(words[0]), " ".join(words[1:2 if words[1] == "ok" else 3])
-        if tag in DROPPED and answer in ("ok", "refused 9"):
+        if tag in counts and answer in ("ok", "refused 9"):
             counts[tag][answer] += words[DROPPED[tag] if answer == "ok" else DROPPED_BY_9] != "0"
     return counts
 
@@ -98,8 +132,8 @@ def size(crate):
 
 seed, hives = sys.argv[1], [os.path.basename(h) for h in sys.argv[2:]]
 paper, parts, rust = (counted(f"crates/{crate}/stdout") for crate in ("replay_paper", "replay_parts", "replay_rust"))
-missing = [(NAMES[t], n) for t, ns in REFUSALS.items() for n in ns if not (parts if t in (26, 27) else paper)[t][f"refused {n}"]]
-drops = dropping("crates/replay_paper/stdout")
+missing = [(NAMES[t], n) for t, ns in REFUSALS.items() for n in ns if not (parts if t >= 26 else paper)[t][f"refused {n}"]]
+drops = dropping("crates/replay_paper/stdout", [t for t in DROPPED if t < 26]) | dropping("crates/replay_parts/stdout", [t for t in DROPPED if t > 28])
 missing += [(NAMES[t], f"{a}, dropped") for t, c in drops.items() for a in ("ok", "refused 9")[:2 if t in WITH_ROOM else 1] if not c[a]]
 tells = told("crates/replay_paper/stdout")
 missing += [(NAMES[t], a) for t, c in tells.items() for a in (("none", "one", "more") if t == 24 else ("cell", "end")) if not c[a]]
@@ -107,6 +141,8 @@ whole, before, unequal, rows, kinds, undecided = rows_of_parts("replay_parts")
 missing += [("bins in parts", why) for why, bad in (("unequal to the whole check", unequal), ("with two answers", undecided), ("whole", not whole)) if bad]
 calls, by_calls = rows_of_calls("replay_parts")
 missing += [(CALLS[k][0], n) for k in CALLS for n in ["ok"] + CALLS[k][1] if not calls[k][n]]
+whys = reasons("replay_parts")
+missing += [(NAMES[t], f"{n}: {why}") for t in reader.STRICT for n in REASONS for why in REASONS[n] if not whys[t][n, why] and (t, why) != (32, "`ri` under `ri`")]
 total = lambda counts: sum(sum(c.values()) for c in counts.values())
 print(f"""# The stored cases
 
@@ -133,21 +169,26 @@ def table(counts):
 
 
 table(paper)
-dropped = [f"{NAMES[t]} {c['ok']}" + (f" and {c['refused 9']}" if c["refused 9"] else "") for t, c in drops.items()]
+dropped = {t: f"{NAMES[t]} {c['ok']}" + (f" and {c['refused 9']}" if c["refused 9"] else "") for t, c in drops.items()}
 print(f"""
-Entries are dropped in so many successes, and refusals by 9: {", ".join(dropped)}.
+Entries are dropped in so many successes, and refusals by 9: {", ".join(dropped[t] for t in dropped if t < 26)}.
 A cell is told in {tells[23]["cell"]} steps of the reader, the end in {tells[23]["end"]}, and the same by the bins. Deleted keys: none in {tells[24]["none"]} lists, one in {tells[24]["one"]}, more in {tells[24]["more"]}.
 
 ## crates/replay_parts: {total(parts):,} cases, {size("replay_parts") // 1000} KB, answers of compare/paper.py
 
 Bins as they arrive: the stored cases of "bins and cells" again, cut in parts, each rule on both sides, random and damaged bins, hives; and one
 part on records of any numbers, whose refusals may be of any number too. Totals beside the keys: rows of calls, each refusal on both sides
-and before each other, full tables, places used again, tables that no call made, random rows, the keys of hives. A program by itself, since
-`rt try`, by which `compare/slips` runs them, takes no more than a megabyte of output from one.
+and before each other, full tables, places used again, tables that no call made, random rows, the keys of hives. The strict profile: each rule
+on both sides, alone, at the top and below it, each refusal before each other, random images, hives. A program by itself, since `rt try`, by
+which `compare/slips` runs them, takes no more than a megabyte of output from one.
 
 | Function | Cases | Success | Refused by number: cases |
 |---|---|---|---|""")
-table(parts)
+table({t: c for t, c in parts.items() if t >= 26})
+strict = {t: parts[t] for t in reader.STRICT}
+as_ordinary = total(strict) - sum(n for c in whys.values() for why, n in c.items() if why)
+said = "; ".join(f"by {n} " + ", ".join(f"{why} {sum(c[n, why] for c in whys.values()):,}" for why in REASONS[n]) for n in REASONS)
+beside = ", ".join(f"{NAMES[t]} {sum(parts[t].values()):,}" for t in sorted(set(reader.STRICT.values())))
 calls_table = "\n".join(f"| {CALLS[k][0]} | {sum(calls[k].values()):,} | {calls[k]['ok']:,} | {', '.join(f'{n}: {calls[k][n]:,}' for n in sorted(n for n in calls[k] if n != 'ok'))} |" for k in CALLS)
 print(f"""
 {whole:,} rows of parts have just the bins' bytes, and {before:,} others, of a size that an image can have, are refused by 10 or 11: each ends in the answer that the whole check gives on these bytes.
@@ -160,6 +201,10 @@ The {parts[28]["ok"]:,} rows of calls by what each call was answered:
 {calls_table}
 
 {by_calls:,} of the rows leave a table that calls alone made: there the paper's reading holds the stored total, after each call, to the sum over the entries. The others write places or the total by hand.
+
+Of the {total(strict):,} strict cases so many are refused for a reason that is the strict profile's own: {said}. The other {as_ordinary:,} have the ordinary reading's answer, success or refusal: `paper.py` holds each to it.
+Entries are dropped in so many successes, and refusals by 9: {", ".join(dropped[t] for t in dropped if t > 28)}.
+Beside them, once for the minor versions of one image and words, stand cases of the ordinary reading: {beside}.
 
 ## crates/replay_rust: {total(rust):,} cases, {size("replay_rust") // 1000} KB, the Rust's own answers
 

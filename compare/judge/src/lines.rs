@@ -98,6 +98,12 @@ fn function(tag: u32) -> &'static str {
         26 => "bins in parts",
         27 => "one part",
         28 => "totals",
+        29 => "strict list",
+        30 => "strict walk",
+        31 => "strict by record",
+        32 => "strict leaf list",
+        33 => "strict counts",
+        34 => "the same by record",
         _ => "?",
     }
 }

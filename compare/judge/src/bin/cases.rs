@@ -2289,12 +2289,22 @@ fn strict_records(o: &mut Out<impl Write>, more: bool) {
     for (at, x) in [(24, 2u32), (28, 0), (32, 96), (36, 136), (40, 1), (44, 0)] { put32(&mut m, at, x); }
     leaf_list(&mut m, 100, b"lf", &[7, 9], 4);
     leaf_list(&mut m, 140, b"li", &[1], 4);
+    list(&mut m, 164, b"ri", &[136, 96, 160], 3);
     o.image(&m);
     o.strict_record(0, 4, 1, 2, &MINORS);
     for room in [0, 1, 3] { o.strict_record(0, 4, 1, room, &[2, 3]); }
     for budget in [0, BUDGET, BUDGET + 1] { o.strict_record(0, 4, budget, 2, &[3]); }
     for base in [0, 3, 44, 104, 105, u32::MAX] { o.strict_record(0, base, 1, 2, &[3]); }
     for at in [1, 100, 121, 200, 201, u32::MAX] { o.strict_record(at, 4, 1, 2, &[2, 3][..if more { 2 } else { 1 }]); }
+    // its list drops an entry, then both
+    for at in [116, 108] { o.patch(at, &(u32::MAX - 3).to_le_bytes()); for room in [0, 1, 2] { o.strict_record(0, 4, 1, room, &[2, 3]); } }
+    o.image(&m);
+    // its list is an `ri` list, that names itself behind two others, and then the two alone
+    o.patch(32, &[160]);
+    for budget in [BUDGET, 3] { o.strict_record(0, 4, budget, 3, &[2, 3]); }
+    o.patch(170, &[2]);
+    for room in [3, 2] { o.strict_record(0, 4, 3, room, &[2, 3]); }
+    o.image(&m);
     // its numbers, its own size, signature and name; the list's size word, kind and count
     let faults: [(usize, Vec<u8>); 20] = [(24, vec![0; 4]), (24, vec![0, 0, 16, 0]), (24, vec![1, 0, 16, 0]), (32, vec![136, 0, 0, 0]), (32, vec![192, 0, 0, 0]), (32, vec![189, 0, 0, 0]), (32, vec![0; 4]),
         (0, signed(88).to_vec()), (0, signed(-79).to_vec()), (0, signed(-201).to_vec()), (4, b"vk".to_vec()), (76, vec![9]),

@@ -175,6 +175,20 @@ fn totals(image: &[u8], position: usize, key: KeyNode) {
     }
 }
 
+// Step 11: the same walk read strictly, with the minor version that the base block tells: a copy whose lists are not as its version
+// permits, or not each in an allocated cell of its own, is refused. What is accepted is what step 4 gave.
+fn strictly(image: &[u8], minor: u32, key: KeyNode) {
+    say(b" strictly");
+    match cell_key_node::strict_sub_key_counts_of(image, BASE, key, BUDGET, minor) {
+        WalkAnswer::Refused(f) => refused(f.number, f.position),
+        WalkAnswer::Read(c) => {
+            number(c.kept as u64);
+            number(c.dropped as u64);
+            line();
+        }
+    }
+}
+
 // Step 3: the root key, at the root offset plus the base. The offset is signed, and a negative one is refused by 2.
 fn root(image: &[u8], minor: u32, offset: i32) {
     say(b" root");
@@ -189,6 +203,7 @@ fn root(image: &[u8], minor: u32, offset: i32) {
             named(position, cell_key_node::key_name(image, position));
             sub_keys(image, minor, key);
             totals(image, position, key);
+            strictly(image, minor, key);
         }
     }
 }

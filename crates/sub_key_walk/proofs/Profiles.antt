@@ -348,11 +348,16 @@ module _ (s : List ℕ) (base count list budget minor : ℕ) where
     untouched = λ g q. untouched x (ap walkPaper q);
   }
 
--- what `strict_sub_keys` promises, from the two functions that it calls
+-- what `strict_sub_keys` promises, from what it counts
 module _ (s : List ℕ) (base count list budget minor : ℕ) (old : List ℕ) {w : WalkAnswer} (k : walkPaper w ≡ strictMeasured s base count list budget minor) where
   pub strict-refused : {f : WalkRefusal} → w ≡ Refused f → StrictAnswered s base count list budget minor old (Refused f) old
   strict-refused {f} q = answered-refused refl (ap (inRoom fullOf (length old)) (sym k ∙ ap walkPaper q) ∙ room-refused fullOf (length old) (walkTold f))
 
+  -- what is accepted is counted as in the ordinary way
+  pub accepted-counts : {t : Counts} → w ≡ Read t → walkPaper w ≡ measured s base count list budget
+  accepted-counts {t} q = k ∙ accepted-same s base count list budget minor t (sym k ∙ ap walkPaper q) .0
+
+  -- and answered so
   pub strict-accepted : {t : Counts} → w ≡ Read t → (r : WalkAnswer) (new : List ℕ) → WalkAnswered s base count list budget old r new
       → StrictAnswered s base count list budget minor old r new
   strict-accepted {t} q r new x =

@@ -710,7 +710,7 @@ pub fn sub_keys(
     }
 }
 
-// The same with each list read strictly. What strict accepts, the ordinary reading answers identically.
+// The same with each list read strictly. What strict accepts, the ordinary reading answers identically: so it is filled as that one is.
 pub fn strict_sub_keys(
     image: &[u8],
     base: u32,
@@ -724,6 +724,16 @@ pub fn strict_sub_keys(
 {
     match strict_sub_key_counts(image, base, count, list, budget, minor) {
         WalkAnswer::Refused(fault) => WalkAnswer::Refused(fault),
-        WalkAnswer::Read(whole) => sub_keys(image, base, count, list, budget, out),
+        WalkAnswer::Read(sum) => {
+            let places = sum.kept;
+            let lost = sum.dropped;
+            if out.len() < (places as usize) {
+                return WalkAnswer::Refused(full(sum.lists, places, sum.entries, lost));
+            }
+            if 0 < places {
+                fill(image, base, LEVELS, list, lost == 0, out, 0);
+            }
+            WalkAnswer::Read(sum)
+        }
     }
 }

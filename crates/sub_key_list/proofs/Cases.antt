@@ -63,7 +63,11 @@ list-every P s p o c b t =
     (cond-refused P (ltb (length s - p - 8) (entrySize (kindAt s p) * countAt s p)) c
     (λ e. absurd (success-refused e)))))
 
--- so none is NO ROOM
+-- so each tells the list's position
+pub list-position : (s : List ℕ) (p : ℕ) (t : Told) → listAt s p ≡ refused t → t .position ≡ p
+list-position s p = list-every (λ t. t .position ≡ p) s p refl refl refl
+
+-- and none is NO ROOM
 pub list-plain : (s : List ℕ) (p : ℕ) → Plainly (listAt s p)
 list-plain s p = list-every Plain s p (plain OUTSIDE (omega arith)) (plain CUT-SHORT (omega arith)) (plain BAD-SIGN (omega arith))
   where

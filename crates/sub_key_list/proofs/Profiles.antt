@@ -136,7 +136,7 @@ module _ (s : List ℕ) (minor : ℕ) (named : Bool) (p : ℕ) where
       go (success m) q (is-added d c n) =
           absurd (refused-success (sym (strict-read s minor named p q ∙ ap (λ (v : Paper (Unit {0})). andThen v (success m)) c) ∙ e))
 
-  accept : (l : Listed) → listAt s p ≡ success l → Met s minor named p → strictAt s minor named p ≡ success l
+  pub accept : (l : Listed) → listAt s p ≡ success l → Met s minor named p → strictAt s minor named p ≡ success l
   unfolding andThen
   accept l e m = go asked
     where

@@ -7,6 +7,7 @@ pub mod Judged
 pub mod Traces
 pub mod Refusals
 pub mod Profiles
+pub mod Exactly
 pub mod Demand
 pub mod Dropped
 pub mod Examples

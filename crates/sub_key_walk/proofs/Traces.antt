@@ -5,7 +5,7 @@ use mathlib.Core.Bool.{Bool, true, false}
 use Prim.Native.Nat.{ℕ, zero, suc, _+_, _-_, _*_, _≤_, _<_}
 use native.Mathlib.Nat.{suc-mul, mul-add}
 use native.Mathlib.Omega.{arith}
-use borrow.Author.Tests.{ne-eqb, le-ltb, eqb-true, eqb-false, ltb-false}
+use borrow.Author.Tests.{eq-eqb, ne-eqb, le-ltb, eqb-true, eqb-false, ltb-false}
 use lib.Dec.{eqb, ltb}
 use lib.ListN.{length, length-append}
 use Rattle.words.specs.Words.{word32}
@@ -133,6 +133,13 @@ index-of-kind kind count n e = go (eqb kind RI) refl
     go : (b : Bool) → eqb kind RI ≡ b → (kind ≡ RI) × (count ≡ n)
     go true q = let x : lists.index count ≡ lists.index n = rw q at e in (eqb-true _ _ q, (cc))
     go false q = let x : lists.leaf kind (entrySize kind) count ≡ lists.index n = rw q at e in absurd (let y : _≡_ {A = ℕ} 0 1 = cc in omega arith)
+
+pub leaf-is-not-ri : (s : List ℕ) (p k z n : ℕ) → listAt s p ≡ success (lists.leaf k z n) → kindAt s p ≡ RI → ⊥
+unfolding ofKind
+leaf-is-not-ri s p k z n e q =
+    let w : ofKind (kindAt s p) (countAt s p) ≡ lists.leaf k z n = same-success (sym (readable-list s p (read-readable s p (rw e tt))) ∙ e) in
+    let x : lists.index (countAt s p) ≡ lists.leaf k z n = rw (eq-eqb _ _ q) at w in
+    absurd (let y : _≡_ {A = ℕ} 0 1 = cc in omega arith)
 
 pub index-is-ri : (s : List ℕ) (p n : ℕ) → listAt s p ≡ success (lists.index n) → kindAt s p ≡ RI
 index-is-ri s p n e = index-of-kind (kindAt s p) (countAt s p) n (same-success (sym (readable-list s p (read-readable s p (rw e tt))) ∙ e)) .0

@@ -2,17 +2,21 @@
 use Prim.Native.Nat.{ℕ, _<_}
 use mathlib.Core.Path.{_≡_}
 use mathlib.Core.Logic.{_⊎_}
-use mathlib.Core.List.{List}
+use mathlib.Core.List.{List, [], _∷_}
+use mathlib.Core.Bool.{false}
 use Rattle.words.specs.Refusals.{BAD-SIZE, TOO-DEEP, NOT-PERMITTED}
+use Rattle.sub_key_list.specs.Profiles.{Met}
+use Rattle.sub_key_walk.specs.Trace.{Event, deep, bad, index, leaf, walkFrom}
 use Rattle.sub_key_walk.specs.Judge.{fault}
 use Rattle.sub_key_walk.specs.Answers.{walkTold}
+use Rattle.sub_key_walk.specs.Free.{All, Succeeds}
 use Rattle.sub_key_walk.specs.declared.Counts.{Counts}
 use Rattle.sub_key_walk.specs.declared.WalkRefusal.{WalkRefusal}
 use Rattle.sub_key_walk.specs.declared.WalkAnswer.{WalkAnswer}
 use Rattle.sub_key_walk.specs.declared.WalkAnswer.the-variants.{Read, Refused}
 use Rattle.sub_key_walk.specs.declared.LeafRead.{LeafRead}
 use Rattle.sub_key_walk.specs.declared.LeafAnswer.{LeafAnswer}
-use Rattle.sub_key_walk.specs.declared.LeafAnswer.the-variants as leaf
+use Rattle.sub_key_walk.specs.declared.LeafAnswer.the-variants as one
 
 -- a refusal that the strict profile adds: 20 at position 0, or 3, with the lists read so far
 abbrev pub Added : WalkRefusal → Type 0
@@ -34,8 +38,39 @@ pub record SubKeys (budget : ℕ) (old : List ℕ) (r : WalkAnswer) (new : List 
   pub buffer : (t : Counts) → r ≡ Read t → made ≡ new
   pub untouched : (f : WalkRefusal) → r ≡ Refused f → new ≡ old
 
--- The same of one leaf list
+-- ---- when it succeeds, exactly
+
+-- each list that is reached is read, of a permitted kind and in an allocated cell of its own
+abbrev pub Permits : List ℕ → ℕ → Event → Type 0
+Permits s minor (deep p) = ⊥
+Permits s minor (bad t p) = ⊥
+Permits s minor (index p n) = Met s minor false p
+Permits s minor (leaf p l) = Met s minor false p
+
+-- "an `ri` list may not name an `ri` list": all but the first list that is reached are leaf lists
+abbrev pub IsLeaf : Event → Type 0
+IsLeaf (deep p) = ⊥
+IsLeaf (bad t p) = ⊥
+IsLeaf (index p n) = ⊥
+IsLeaf (leaf p l) = Unit {0}
+
+abbrev pub Flat : List Event → Type 0
+Flat [] = Unit {0}
+Flat (e ∷ es) = All IsLeaf es
+
+-- of the lists that the ordinary walk reaches
+pub record Permitted (s : List ℕ) (base list minor : ℕ) : Type 0 where
+  pub each : All (Permits s minor) (walkFrom s base list)
+  pub flat : Flat (walkFrom s base list)
+
+-- For a count above 0: the strict walk succeeds exactly where the ordinary one does and all lists that it reaches are permitted
+pub record Exactly (s : List ℕ) (base list minor : ℕ) (r o : WalkAnswer) : Type 0 where
+  pub if : Succeeds o → Permitted s base list minor → Succeeds r
+  pub only-if : Succeeds r → Succeeds o × Permitted s base list minor
+
+-- ---- the same of one leaf list
+
 pub record LeafSubKeys (old : List ℕ) (r : LeafAnswer) (new : List ℕ) (o : LeafAnswer) (made : List ℕ) : Type 0 where
-  pub accepts : (t : LeafRead) → r ≡ leaf.Read t → (o ≡ r) × (made ≡ new)
-  pub refuses : (f : WalkRefusal) → r ≡ leaf.Refused f → (o ≡ r) ⊎ Added f
-  pub untouched : (f : WalkRefusal) → r ≡ leaf.Refused f → new ≡ old
+  pub accepts : (t : LeafRead) → r ≡ one.Read t → (o ≡ r) × (made ≡ new)
+  pub refuses : (f : WalkRefusal) → r ≡ one.Refused f → (o ≡ r) ⊎ Added f
+  pub untouched : (f : WalkRefusal) → r ≡ one.Refused f → new ≡ old

@@ -22,7 +22,7 @@ use Rattle.sub_key_list.specs.declared.SubKeyList.the-variants.{Refused}
 use Rattle.sub_key_list.proofs.Papers.{paper-injective}
 use Rattle.sub_key_list.proofs.Strict.{strict-refused, strict-read, list-header}
 
-false-true : false ≡ true → ⊥
+pub false-true : false ≡ true → ⊥
 false-true e = let z : _≡_ {A = ℕ} 0 1 = cc in absurd (omega arith)
 
 -- ---- the permitted kinds

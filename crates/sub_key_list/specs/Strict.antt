@@ -46,8 +46,7 @@ listBytes s p = 8 + entrySize (kindAt s p) * countAt s p
 
 -- ---- "Refusals, after those of a single list in 01 and before it counts as read"
 
--- 20, "then 3". By document 01 a refusal's position is "0 for .. every number above
--- 16", and "the position of the list" for 3.
+-- 20, "then 3". By document 01 a refusal's position is "0 for .. every number above 16", and "the position of the list" for 3.
 unfoldable pub strictChecks : List ℕ → ℕ → Bool → ℕ → Paper (Unit {0})
 strictChecks s minor named p =
     cond (barred minor named (kindAt s p)) (refused (by NOT-PERMITTED 0))

@@ -18,7 +18,7 @@ use Rattle.sub_key_list.specs.Lists.{Listed, listAt}
 use Rattle.sub_key_list.specs.Lists as lists
 use Rattle.sub_key_list.specs.Strict.{strictAt}
 use Rattle.sub_key_list.specs.Profiles.{Met}
-use Rattle.sub_key_list.proofs.Profiles.{accepted, accept}
+use Rattle.sub_key_list.proofs.Profiles.{false-true, accepted, accept}
 use Rattle.sub_key_walk.specs.Trace.{Event, index, each, below, trace, ordinary, LEVELS, walkFrom}
 use Rattle.sub_key_walk.specs.Judge.{judge}
 use Rattle.sub_key_walk.specs.Answers.{BUDGET-LIMIT, COUNT-LIMIT, none, fromRecord, measured, fullOf, walkPaper, WalkAnswered}
@@ -27,15 +27,12 @@ use Rattle.sub_key_walk.specs.Strict.{strict, strictFrom, strictMeasured
 use Rattle.sub_key_walk.specs.Profiles.{Permits, IsLeaf, Flat, Permitted, Exactly}
 use Rattle.sub_key_walk.specs.declared.Counts.{Counts}
 use Rattle.sub_key_walk.specs.declared.WalkAnswer.{WalkAnswer}
-use Rattle.sub_key_walk.proofs.Walks.{trace-in, levels-left}
+use Rattle.sub_key_walk.proofs.Walks.{trace-in, levels-left, named-left}
 use Rattle.sub_key_walk.proofs.Judged.{Good, all-judge}
 use Rattle.sub_key_walk.proofs.Papers.{paper-read}
 use Rattle.sub_key_walk.proofs.Answers.{reached-walk}
 use Rattle.sub_key_walk.proofs.Traces.{all-append, append-all, leaf-is-not-ri, index-is-ri}
 use Rattle.sub_key_walk.proofs.Profiles.{accepted-same}
-
-false-true : false ≡ true → ⊥
-false-true e = let z : _≡_ {A = ℕ} 0 1 = cc in absurd (omega arith)
 
 -- what is asked of a list that is named is asked of it by itself too, and of a leaf list it is the same
 unnamed : (s : List ℕ) (minor : ℕ) (named : Bool) (p : ℕ) → Met s minor named p → Met s minor false p
@@ -45,9 +42,6 @@ unnamed s minor named p m =
 named-leaf : (s : List ℕ) (minor p k z n : ℕ) → listAt s p ≡ success (lists.leaf k z n) → Met s minor false p → Met s minor true p
 named-leaf s minor p k z n e m =
     record { permitted = m .permitted; top = λ _ q. leaf-is-not-ri s p k z n e q; allocated = m .allocated; large = m .large; inside = m .inside }
-
-seven-left : _≡_ {A = ℕ} 7 0 → ⊥
-seven-left z = let y : ⊥ = omega arith in y
 
 module _ (s : List ℕ) (base minor : ℕ) where
   abbrev strictly : ℕ → List Event
@@ -68,8 +62,8 @@ module _ (s : List ℕ) (base minor : ℕ) where
 
   below-same : (o : ℕ) → All (Permits s minor) (plainly o) → All IsLeaf (plainly o) → strictly o ≡ plainly o
   below-same o m l =
-      let x = trace-in (ordinary s) 7 s base o seven-left in
-      trace-in (strict s minor) 7 s base o seven-left
+      let x = trace-in (ordinary s) 7 s base o named-left in
+      trace-in (strict s minor) 7 s base o named-left
       ∙ named-same _ _ (o + base) (listAt s (o + base)) refl (subst (All (Permits s minor)) x m) (subst (All IsLeaf) x l)
       ∙ sym x
 
@@ -110,7 +104,7 @@ module _ (s : List ℕ) (base minor : ℕ) where
 
   below-permits : (o : ℕ) → All Good (strictly o) → All (Permits s minor) (strictly o) × All IsLeaf (strictly o)
   below-permits o g =
-      let x = trace-in (strict s minor) 7 s base o seven-left in
+      let x = trace-in (strict s minor) 7 s base o named-left in
       let w = named-permits _ (o + base) (strictAt s minor true (o + base)) refl (subst (All Good) x g) in
       (subst (All (Permits s minor)) (sym x) (w .0), subst (All IsLeaf) (sym x) (w .1))
 

@@ -1,4 +1,5 @@
--- The strict profile of the walk beside the ordinary one; last of the answers themselves (`profiles`). Assumes nothing.
+-- The strict profile of the walk beside the ordinary one; last of the answers themselves (`counts-profiles`, `sub-keys-profiles`,
+-- `leaf-profiles`). Assumes nothing.
 use Prim.{tt}
 use mathlib.Core.Path.{_≡_, refl, ap, sym, subst, _∙_}
 use mathlib.Core.Logic.{_⊎_, inl, inr}
@@ -17,7 +18,7 @@ use Rattle.words.proofs.Papers.{success-refused, same-told}
 use Rattle.words.proofs.Buffers.{room-refused, room-success, other-of, answered-refused, untouched}
 use Rattle.sub_key_list.specs.Lists.{Listed, listAt}
 use Rattle.sub_key_list.specs.Lists as lists
-use Rattle.sub_key_list.specs.Leaves.{leafOf, onlyLeaf}
+use Rattle.sub_key_list.specs.Leaves.{leafOf, onlyLeaf, leafAt}
 use Rattle.sub_key_list.specs.Profiles.{Added}
 use Rattle.sub_key_list.specs.Strict.{strictAt}
 use Rattle.sub_key_list.proofs.Cases.{list-every}
@@ -36,7 +37,7 @@ use Rattle.sub_key_walk.specs.declared.LeafAnswer.{LeafAnswer}
 use Rattle.sub_key_walk.specs.declared.WalkRefusal.{WalkRefusal}
 use Rattle.sub_key_walk.specs.declared.WalkAnswer.{WalkAnswer}
 use Rattle.sub_key_walk.specs.declared.WalkAnswer.the-variants.{Read, Refused}
-use Rattle.sub_key_walk.proofs.Walks.{trace-in, judge-append, levels-left}
+use Rattle.sub_key_walk.proofs.Walks.{trace-in, judge-append, levels-left, named-left}
 use Rattle.sub_key_walk.proofs.Papers.{paper-injective, leaf-answers-determined}
 use Rattle.sub_key_walk.proofs.Traces.{append-all, index-is-ri}
 use Rattle.sub_key_walk.proofs.Refusals.{Sound, record-every}
@@ -262,12 +263,9 @@ module _ (s : List ℕ) (base minor : ℕ) where
       subst (All Fine) (sym (trace-in (strict s minor) LEVELS s base list levels-left))
       (top-fine (trace (strict s minor) 7 s base) below-top (list + base) (strictAt s minor false (list + base)) refl)
     where
-      seven-left : _≡_ {A = ℕ} 7 0 → ⊥
-      seven-left z = let y : ⊥ = omega arith in y
-
       below-top : (o : ℕ) → All Fine (trace (strict s minor) 7 s base o)
       below-top o =
-          subst (All Fine) (sym (trace-in (strict s minor) 7 s base o seven-left))
+          subst (All Fine) (sym (trace-in (strict s minor) 7 s base o named-left))
           (named-fine (trace (strict s minor) 6 s base) (o + base) (strictAt s minor true (o + base)) refl)
 
 -- ---- of the answers themselves
@@ -384,7 +382,7 @@ module _ (s : List ℕ) (base p minor : ℕ) (old : List ℕ) where
     where
       alike-both : LeafAnswered s base p old r new → LeafSubKeys old r new o made
       alike-both z =
-          let e = leaf-answers-determined s base p y z in
+          let e = leaf-answers-determined (leafAt s base p) y z in
           record { accepts = λ t q. e; refuses = λ f q. inl (e .0); untouched = λ f q. untouched z (ap leafPaper q) }
 
       said : {t : Told} → strictAt s minor false p ≡ refused t → leafPaper r ≡ refused t

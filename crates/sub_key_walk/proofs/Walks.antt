@@ -296,6 +296,10 @@ module _ {hd : ℕ → ℕ → Paper Listed} {budget : ℕ} {st : Counts} {level
 pub levels-left : LEVELS ≡ 0 → ⊥
 levels-left z = let y : ⊥ = omega arith in y
 
+-- and below it
+pub named-left : LEVELS - 1 ≡ 0 → ⊥
+named-left z = let y : ⊥ = omega arith in y
+
 pub lost-few : (s : List ℕ) (base size n pos : ℕ) {lost : ℕ} → lost ≡ leafDropped s base size n pos → lost ≤ n
 lost-few s base size n pos d = let a = leaf-all s base size n pos in omega (arith, d)
 

@@ -1,4 +1,5 @@
--- Document 02, order 9, of the walk: what is proved of the strict profile beside the ordinary reading (proofs/Profiles.antt).
+-- Document 02, order 9, of the walk: what is proved of the strict profile beside the ordinary reading (proofs/Profiles.antt,
+-- proofs/Exactly.antt).
 use Prim.Native.Nat.{ℕ, _<_}
 use mathlib.Core.Path.{_≡_}
 use mathlib.Core.Logic.{_⊎_}

@@ -1,0 +1,264 @@
+// Subkey lists written anew: an `li` list as an allocated `lh` cell, and an `lh` list as an allocated `li` cell. Every function takes any
+// list, position, image, base and buffer. All is judged first and written after: a refusal changes no byte of the buffer.
+use cell_key_node::KeyAnswer;
+use name_hash::HashAnswer;
+use sub_key_list::SubKeyList;
+use words::Refusal;
+use words::RoomRefusal;
+use words::Verdict;
+ghost use mathlib.Core.Path.{_≡_};
+ghost use Prim.Native.Nat.{_+_, _*_, _-_, _≤_};
+ghost use lib.ListN.{length};
+ghost use Rattle.words.specs.Refusals.{BAD-SIGN};
+ghost use Rattle.words.specs.Paper.{refused, by, told, verdictPaper};
+ghost use Rattle.words.specs.Buffers.{needing};
+ghost use Rattle.cell_key_node.specs.ValueList.{upTo};
+ghost use Rattle.name_hash.specs.Hash.{hashPaper};
+ghost use Rattle.writing.specs.Writing.{withBytes, bytesOf};
+ghost use Rattle.list_conversion.specs.Cells.{cellSize, header, rowBytes};
+ghost use Rattle.list_conversion.specs.Entries.{offsetIn, countOf, countPaper, keyHash, hashOf, judgedOf, lhEntry};
+ghost use Rattle.list_conversion.specs.Answers.{conversionPaper, LhAnswered, LiAnswered};
+
+// The kinds of list that are written, each by the word of its two letters, and the bytes of an entry of each.
+const LH: u16 = 0x686c;
+
+const LI: u16 = 0x696c;
+
+const LH_ENTRY: u8 = 8;
+
+const LI_ENTRY: u8 = 4;
+
+// The bytes before a list's entries.
+const HEADER: usize = 8;
+
+// Offset plus base is below this.
+const ADDRESSES: usize = 4294967296;
+
+// The bytes of the cell that is written, or why none is.
+pub enum ConversionAnswer {
+    Written(u32),
+    Refused(RoomRefusal),
+}
+
+// How many entries a list has, or why it is not taken.
+enum CountAnswer {
+    Count(u16),
+    Refused(Refusal),
+}
+
+// A list of another kind than the one that is taken.
+fn other_kind(position: usize) -> CountAnswer
+    ensures { λ r. ⌜ countPaper r ≡ refused (by BAD-SIGN position) ⌝ }
+{
+    CountAnswer::Refused(Refusal {
+        number: words::BAD_SIGN,
+        position,
+    })
+}
+
+// How many entries the list at a position has, where it is of one kind.
+fn count_of(list: &[u8], position: usize, kind: u16) -> CountAnswer
+    ensures { λ r. ⌜ countPaper r ≡ countOf kind (now (list .entry)) position ⌝ }
+{
+    match sub_key_list::read_list(list, position) {
+        SubKeyList::Refused(fault) => CountAnswer::Refused(fault),
+        SubKeyList::Index(index) => other_kind(position),
+        SubKeyList::Leaf(leaf) => {
+            if leaf.signature != kind {
+                return other_kind(position);
+            }
+            CountAnswer::Count(leaf.count)
+        }
+    }
+}
+
+// The hash of the name of the key record that an entry names.
+fn key_hash(image: &[u8], base: u32, offset: u32) -> HashAnswer
+    ensures { λ r. ⌜ hashPaper r ≡ keyHash (now (image .entry)) base offset ⌝ }
+{
+    let relative = offset as usize;
+    let place = relative + base as usize;
+    if ADDRESSES <= place {
+        return HashAnswer::Refused(Refusal {
+            number: words::OUTSIDE,
+            position: place,
+        });
+    }
+    match cell_key_node::read_key_node(image, place) {
+        KeyAnswer::Refused(fault) => HashAnswer::Refused(fault),
+        KeyAnswer::Key(key) => {
+            let name = cell_key_node::key_name(image, place);
+            name_hash::name_hash(key.key_node_flag_bits, name)
+        }
+    }
+}
+
+// Whether every entry of an `li` list, which begins with its size word, names a key whose name has a hash: the first that does not refuses.
+fn check_keys(list: &[u8], count: u16, image: &[u8], base: u32) -> Verdict
+    ensures { λ r. ⌜ verdictPaper r ≡ judgedOf (now (image .entry)) base (upTo (offsetIn (now (list .entry)) 4) count) ⌝ }
+{
+    let mut i: u16 = 0;
+    while i < count {
+        let offset = words::u32_at(list, HEADER + 4 * (i as usize));
+        match key_hash(image, base, offset) {
+            HashAnswer::Refused(fault) => {
+                return Verdict::Refused(fault);
+            }
+            HashAnswer::Hash(_) => {}
+        }
+        i += 1;
+    }
+    Verdict::Whole
+}
+
+// The hash that an entry gets; 0 where its key has none.
+fn hash_of(image: &[u8], base: u32, offset: u32) -> u32
+    ensures { λ r. ⌜ r ≡ hashOf (now (image .entry)) base offset ⌝ }
+{
+    match key_hash(image, base, offset) {
+        HashAnswer::Hash(hash) => hash,
+        HashAnswer::Refused(_) => 0,
+    }
+}
+
+// The bytes of a list's header and entries.
+fn bytes_of(entry: u8, count: u16) -> u32
+    ensures { λ r. ⌜ r ≡ 8 + entry * count ⌝ }
+{
+    8 + (entry as u32) * (count as u32)
+}
+
+// The bytes of the smallest cell for a list: a multiple of 8.
+fn cell_size(entry: u8, count: u16) -> u32
+    ensures { λ r. ⌜ r ≡ cellSize entry count ⌝ }
+{
+    let bytes = bytes_of(entry, count);
+    (bytes + 7) / 8 * 8
+}
+
+// The header of an allocated cell: its size, which is written as a negative number, its kind and its count.
+fn put_header(size: u32, kind: u16, count: u16, out: &mut [u8])
+    requires { ⌜ 1 ≤ size ⌝ }
+    requires { ⌜ 8 ≤ length (now out) ⌝ }
+    ensures { λ _. ⌜ now (out .exit) ≡ withBytes (now (out .entry)) 0 (header size kind count) ⌝ }
+{
+    let word = (4294967296 - size as u64) as u32;
+    writing::put_u32(out, 0, word);
+    writing::put_u16(out, 4, kind);
+    writing::put_u16(out, 6, count);
+}
+
+// The entries of an `lh` list behind the header: each offset as it stands in an `li` list, with the hash of its key's name.
+fn put_lh_entries(list: &[u8], count: u16, image: &[u8], base: u32, out: &mut [u8])
+    requires { ⌜ 8 + 8 * count ≤ length (now out) ⌝ }
+    ensures { λ _. ⌜ now (out .exit) ≡ withBytes (now (out .entry)) 8 (rowBytes 8 (upTo (lhEntry (now (image .entry)) base (now (list .entry))) count)) ⌝ }
+{
+    let mut i: u16 = 0;
+    while i < count {
+        let at = i as usize;
+        let offset = words::u32_at(list, HEADER + 4 * at);
+        let hash = hash_of(image, base, offset);
+        let entry = (offset as u64) + 4294967296 * (hash as u64);
+        writing::put_u64(out, HEADER + 8 * at, entry);
+        i += 1;
+    }
+}
+
+// The entries of an `li` list behind the header: each offset as it stands in an `lh` list.
+fn put_li_entries(list: &[u8], count: u16, out: &mut [u8])
+    requires { ⌜ 8 + 4 * count ≤ length (now out) ⌝ }
+    ensures { λ _. ⌜ now (out .exit) ≡ withBytes (now (out .entry)) 8 (rowBytes 4 (upTo (offsetIn (now (list .entry)) 8) count)) ⌝ }
+{
+    let mut i: u16 = 0;
+    while i < count {
+        let at = i as usize;
+        let offset = words::u32_at(list, HEADER + 8 * at);
+        writing::put_u32(out, HEADER + 4 * at, offset);
+        i += 1;
+    }
+}
+
+// The rest of a cell behind its entries.
+fn put_rest(size: u32, entry: u8, count: u16, out: &mut [u8])
+    requires { ⌜ size ≤ length (now out) ⌝ }
+    requires { ⌜ 8 + entry * count ≤ size ⌝ }
+    ensures { λ _. ⌜ now (out .exit) ≡ withBytes (now (out .entry)) (8 + entry * count) (bytesOf (size - (8 + entry * count)) 0) ⌝ }
+{
+    let end = bytes_of(entry, count);
+    let rest = size - end;
+    writing::put_bytes(out, end as usize, rest as usize, 0);
+}
+
+// A refusal of what is read.
+fn refuse(fault: Refusal) -> ConversionAnswer
+    ensures { λ r. ⌜ conversionPaper r ≡ refused (told fault) ⌝ }
+{
+    ConversionAnswer::Refused(RoomRefusal {
+        number: fault.number,
+        position: fault.position,
+        places: 0,
+    })
+}
+
+// A cell that does not fit.
+fn no_room(size: u32) -> ConversionAnswer
+    ensures { λ r. ⌜ conversionPaper r ≡ refused (needing size) ⌝ }
+{
+    ConversionAnswer::Refused(RoomRefusal {
+        number: words::NO_ROOM,
+        position: 0,
+        places: size as usize,
+    })
+}
+
+// The `li` list at a position of `list`, written as an allocated `lh` cell into the first bytes of `out`: each hash is that of the key
+// record which the entry names in `image`, at the entry's offset plus `base`. The answer is the cell's size.
+pub fn write_lh(
+    list: &[u8],
+    position: usize,
+    image: &[u8],
+    base: u32,
+    out: &mut [u8],
+) -> ConversionAnswer
+    ensures { λ r. ⌜ LhAnswered (now (list .entry)) position (now (image .entry)) base (now (out .entry)) r (now (out .exit)) ⌝ }
+{
+    match count_of(list, position, LI) {
+        CountAnswer::Refused(fault) => refuse(fault),
+        CountAnswer::Count(count) => {
+            let entries = words::from(list, position);
+            match check_keys(entries, count, image, base) {
+                Verdict::Refused(fault) => refuse(fault),
+                Verdict::Whole => {
+                    let size = cell_size(LH_ENTRY, count);
+                    if out.len() < size as usize {
+                        return no_room(size);
+                    }
+                    put_header(size, LH, count, out);
+                    put_lh_entries(entries, count, image, base, out);
+                    put_rest(size, LH_ENTRY, count, out);
+                    ConversionAnswer::Written(size)
+                }
+            }
+        }
+    }
+}
+
+// The `lh` list at a position of `list`, written as an allocated `li` cell into the first bytes of `out`. The answer is the cell's size.
+pub fn write_li(list: &[u8], position: usize, out: &mut [u8]) -> ConversionAnswer
+    ensures { λ r. ⌜ LiAnswered (now (list .entry)) position (now (out .entry)) r (now (out .exit)) ⌝ }
+{
+    match count_of(list, position, LH) {
+        CountAnswer::Refused(fault) => refuse(fault),
+        CountAnswer::Count(count) => {
+            let entries = words::from(list, position);
+            let size = cell_size(LI_ENTRY, count);
+            if out.len() < size as usize {
+                return no_room(size);
+            }
+            put_header(size, LI, count, out);
+            put_li_entries(entries, count, out);
+            put_rest(size, LI_ENTRY, count, out);
+            ConversionAnswer::Written(size)
+        }
+    }
+}

@@ -7,7 +7,10 @@ use native.Mathlib.Numerals.{add-one}
 use lib.ListN.{length, drop, drop-of-length-le}
 use lib.Seq.{drop-cons}
 use borrow.Author.Tests.{le-leb, lt-leb, eq-eqb, ne-eqb}
-use Rattle.words.specs.Paper.{Told, Paper, success, refused, by, onSuccess}
+use Rattle.words.specs.Paper.{Told, Paper, success, refused, by, told, verdictPaper, onSuccess}
+use Rattle.words.specs.declared.Refusal.{Refusal}
+use Rattle.words.specs.declared.Verdict.{Verdict}
+use Rattle.words.specs.declared.Verdict.the-variants.{Whole, Refused}
 use Rattle.words.specs.Refusals.{OUTSIDE, BAD-SIGN}
 use Rattle.words.proofs.Papers.{refused-success, on-refused-of}
 use Rattle.sub_key_list.specs.Lists.{LH, LI, leaf, index, listAt}
@@ -16,7 +19,9 @@ use Rattle.cell_key_node.specs.ValueList.{upTo}
 use Rattle.cell_key_node.specs.declared.KeyNode.{KeyNode}
 use Rattle.cell_key_node.proofs.Fill.{up-length, up-at}
 use Rattle.name_hash.specs.Hash.{nameHashOf}
-use Rattle.list_conversion.specs.Entries.{thenBy, onlyKind, countOf, offsetIn, keyHash, entry, hashed, lhEntries, liEntries, judgedOf, hashOf, lhEntry}
+use Rattle.list_conversion.specs.declared.CountAnswer.{CountAnswer}
+use Rattle.list_conversion.specs.declared.CountAnswer.the-variants.{Count, Refused as NoCount}
+use Rattle.list_conversion.specs.Entries.{thenBy, onlyKind, countOf, countPaper, offsetIn, keyHash, entry, hashed, lhEntries, liEntries, judgedOf, hashOf, lhEntry}
 
 -- ---- how many entries, by what the list is
 
@@ -116,35 +121,36 @@ module _ (image : List ℕ) (base : ℕ) where
 
 -- ---- what is written, by what the code has found
 
-module _ (s : List ℕ) (p : ℕ) where
-  module _ (image : List ℕ) (base : ℕ) where
-    pub lh-uncounted : {t : Told} → refused t ≡ countOf LI s p → lhEntries s p image base ≡ refused t
+module _ (s : List ℕ) (p : ℕ) {r : CountAnswer} where
+  module _ (image : List ℕ) (base : ℕ) (c : countPaper r ≡ countOf LI s p) where
+    pub lh-uncounted : {f : Refusal} → r ≡ NoCount f → lhEntries s p image base ≡ refused (told f)
     unfolding lhEntries thenBy
-    lh-uncounted e = rw (← e)
+    lh-uncounted e = rw (← c, e)
 
-    module _ {n : ℕ} (e : success n ≡ countOf LI s p) where
+    module _ {n : ℕ} (e : r ≡ Count n) where
       counted : lhEntries s p image base ≡ hashed image base (upTo (offsetIn (drop p s) 4) n)
       unfolding lhEntries thenBy
-      counted = rw (← e)
+      counted = rw (← c, e)
 
       -- `l` is what stands from the list's size word on
-      module _ {l : List ℕ} (b : l ≡ drop p s) where
-        judged-there : judgedOf image base (upTo (offsetIn l 4) n) ≡ judgedOf image base (upTo (offsetIn (drop p s) 4) n)
-        judged-there = ap (λ (k : List ℕ). judgedOf image base (upTo (offsetIn k 4) n)) b
+      module _ {l : List ℕ} (b : l ≡ drop p s) {v : Verdict} (j : verdictPaper v ≡ judgedOf image base (upTo (offsetIn l 4) n)) where
+        verdict : {w : Verdict} → v ≡ w → judgedOf image base (upTo (offsetIn (drop p s) 4) n) ≡ verdictPaper w
+        verdict q = sym (sym (ap verdictPaper q) ∙ j ∙ ap (λ (k : List ℕ). judgedOf image base (upTo (offsetIn k 4) n)) b)
 
-        pub lh-refused : {t : Told} → refused t ≡ judgedOf image base (upTo (offsetIn l 4) n) → lhEntries s p image base ≡ refused t
+        pub lh-refused : {f : Refusal} → v ≡ Refused f → lhEntries s p image base ≡ refused (told f)
         lh-refused q =
-            counted ∙ on-refused-of (λ (es : List ℕ). tt {0}) (hashed image base (upTo (offsetIn (drop p s) 4) n)) (sym (q ∙ judged-there))
+            counted ∙ on-refused-of (λ (es : List ℕ). tt {0}) (hashed image base (upTo (offsetIn (drop p s) 4) n)) (verdict q)
 
-        pub lh-written : success tt ≡ judgedOf image base (upTo (offsetIn l 4) n) → lhEntries s p image base ≡ success (upTo (lhEntry image base (drop p s)) n)
+        pub lh-written : v ≡ Whole → lhEntries s p image base ≡ success (upTo (lhEntry image base (drop p s)) n)
         lh-written q =
-            counted ∙ hashed-all image base (upTo (offsetIn (drop p s) 4) n) (sym (q ∙ judged-there))
+            counted ∙ hashed-all image base (upTo (offsetIn (drop p s) 4) n) (verdict q)
             ∙ ap success (map-up (λ o. entry o (hashOf image base o)) (offsetIn (drop p s) 4) n)
 
-  pub li-uncounted : {t : Told} → refused t ≡ countOf LH s p → liEntries s p ≡ refused t
-  unfolding liEntries onSuccess
-  li-uncounted e = rw (← e)
+  module _ (c : countPaper r ≡ countOf LH s p) where
+    pub li-uncounted : {f : Refusal} → r ≡ NoCount f → liEntries s p ≡ refused (told f)
+    unfolding liEntries onSuccess
+    li-uncounted e = rw (← c, e)
 
-  pub li-written : {n : ℕ} → success n ≡ countOf LH s p → liEntries s p ≡ success (upTo (offsetIn (drop p s) 8) n)
-  unfolding liEntries onSuccess
-  li-written e = rw (← e)
+    pub li-written : {n : ℕ} → r ≡ Count n → liEntries s p ≡ success (upTo (offsetIn (drop p s) 8) n)
+    unfolding liEntries onSuccess
+    li-written e = rw (← c, e)

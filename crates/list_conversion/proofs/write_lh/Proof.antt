@@ -1,9 +1,8 @@
-use mathlib.Core.Path.{sym, ap, _∙_}
-use Rattle.words.specs.Paper.{verdictPaper}
+use mathlib.Core.Path.{ap}
 use lib.ListN.{drop}
 use Rattle.sub_key_list.specs.Lists.{LH}
 use Rattle.cell_key_node.proofs.Fill.{up-length}
-use Rattle.list_conversion.specs.Entries.{countPaper, lhEntries, lhEntry}
+use Rattle.list_conversion.specs.Entries.{lhEntries, lhEntry}
 use Rattle.list_conversion.proofs.Entries.{lh-uncounted, lh-refused, lh-written}
 use Rattle.list_conversion.proofs.Answers.{lh-size, conversion-refused, asks-header, asks-entries, asks-rest, row-full, row-written}
 use borrow.Author.Needs.{needs}
@@ -49,7 +48,7 @@ no-room-requires c κs = search needs
 returns : tie.Need-returns
 returns c =
     let a = c .before .before .before .before .before .before .before .before .before .before .before .before .before .before .args in
-    row-full LH 8 lh-size _ (c .before .before .cell-size .ensures) (a .out .now) (lhEntry (a .image .now) (a .base) (drop (a .position) (a .list .now))) (lh-written (a .list .now) (a .position) (a .image .now) (a .base) (sym (ap countPaper (c .before .before .before .before .before .before .before .before .count .given .1)) ∙ c .before .before .before .before .before .before .before .before .before .before .count-of .ensures) (c .before .before .before .before .before .before .from .ensures .bytes) (sym (ap verdictPaper (c .before .before .before .enum-told .given .1)) ∙ c .before .before .before .before .before .check-keys .ensures)) (c .before .if1 .taken) (c .no-room .result) (c .no-room .ensures)
+    row-full LH 8 lh-size _ (c .before .before .cell-size .ensures) (a .out .now) (lhEntry (a .image .now) (a .base) (drop (a .position) (a .list .now))) (lh-written (a .list .now) (a .position) (a .image .now) (a .base) (c .before .before .before .before .before .before .before .before .before .before .count-of .ensures) (c .before .before .before .before .before .before .before .before .count .given .1) (c .before .before .before .before .before .before .from .ensures .bytes) (c .before .before .before .before .before .check-keys .ensures) (c .before .before .before .enum-told .given .1)) (c .before .if1 .taken) (c .no-room .result) (c .no-room .ensures)
 
 put-header-requires : tie.Need-put-header-requires
 put-header-requires c κs = asks-header LH 8 lh-size _ (c .before .before .cell-size .ensures) (c .before .before .before .before .before .before .before .before .before .before .before .before .before .before .args .out .now) (c .before .if1 .left)
@@ -63,12 +62,12 @@ put-rest-requires c κs = asks-rest LH 8 lh-size _ (c .before .before .before .b
 returns-2 : tie.Need-returns-2
 returns-2 c =
     let a = c .before .before .before .before .before .before .before .before .args in
-    conversion-refused LH (lhEntries (a .list .now) (a .position) (a .image .now) (a .base)) (a .out .now) (lh-uncounted (a .list .now) (a .position) (a .image .now) (a .base) (sym (ap countPaper (c .before .before .fault .given .1)) ∙ c .before .before .before .before .count-of .ensures)) (c .refuse .result) (c .refuse .ensures)
+    conversion-refused LH (lhEntries (a .list .now) (a .position) (a .image .now) (a .base)) (a .out .now) (lh-uncounted (a .list .now) (a .position) (a .image .now) (a .base) (c .before .before .before .before .count-of .ensures) (c .before .before .fault .given .1)) (c .refuse .result) (c .refuse .ensures)
 
 returns-3 : tie.Need-returns-3
 returns-3 c =
     let a = c .before .before .before .before .before .before .before .before .before .before .before .before .before .args in
-    conversion-refused LH (lhEntries (a .list .now) (a .position) (a .image .now) (a .base)) (a .out .now) (lh-refused (a .list .now) (a .position) (a .image .now) (a .base) (sym (ap countPaper (c .before .before .before .before .before .before .before .count .given .1)) ∙ c .before .before .before .before .before .before .before .before .before .count-of .ensures) (c .before .before .before .before .before .from .ensures .bytes) (sym (ap verdictPaper (c .before .before .fault2 .given .1)) ∙ c .before .before .before .before .check-keys .ensures)) (c .refuse2 .result) (c .refuse2 .ensures)
+    conversion-refused LH (lhEntries (a .list .now) (a .position) (a .image .now) (a .base)) (a .out .now) (lh-refused (a .list .now) (a .position) (a .image .now) (a .base) (c .before .before .before .before .before .before .before .before .before .count-of .ensures) (c .before .before .before .before .before .before .before .count .given .1) (c .before .before .before .before .before .from .ensures .bytes) (c .before .before .before .before .check-keys .ensures) (c .before .before .fault2 .given .1)) (c .refuse2 .result) (c .refuse2 .ensures)
 
 same-length : tie.Need-same-length
 same-length c = search needs
@@ -76,7 +75,7 @@ same-length c = search needs
 returns-4 : tie.Need-returns-4
 returns-4 c =
     let a = c .before .before .before .before .before .before .before .before .before .before .before .before .before .before .before .before .before .before .before .before .before .before .before .before .before .args in
-    row-written LH 8 lh-size _ (c .before .before .before .before .before .before .before .before .before .before .before .before .before .cell-size .ensures) (a .out .now) (lhEntry (a .image .now) (a .base) (drop (a .position) (a .list .now))) (lh-written (a .list .now) (a .position) (a .image .now) (a .base) (sym (ap countPaper (c .before .before .before .before .before .before .before .before .before .before .before .before .before .before .before .before .before .before .before .count .given .1)) ∙ c .before .before .before .before .before .before .before .before .before .before .before .before .before .before .before .before .before .before .before .before .before .count-of .ensures) (c .before .before .before .before .before .before .before .before .before .before .before .before .before .before .before .before .before .from .ensures .bytes) (sym (ap verdictPaper (c .before .before .before .before .before .before .before .before .before .before .before .before .before .before .enum-told .given .1)) ∙ c .before .before .before .before .before .before .before .before .before .before .before .before .before .before .before .before .check-keys .ensures)) (c .before .before .before .before .before .before .before .before .before .before .before .before .if1 .left) (ap (lhEntry (a .image .now) (a .base)) (c .before .before .before .before .before .before .before .before .before .before .before .before .before .before .before .before .before .from .ensures .bytes)) (c .before .before .before .before .before .before .before .before .before .before .put-header .ensures) (c .before .before .before .before .before .before .put-lh-entries .ensures) (c .before .before .put-rest .ensures)
+    row-written LH 8 lh-size _ (c .before .before .before .before .before .before .before .before .before .before .before .before .before .cell-size .ensures) (a .out .now) (lhEntry (a .image .now) (a .base) (drop (a .position) (a .list .now))) (lh-written (a .list .now) (a .position) (a .image .now) (a .base) (c .before .before .before .before .before .before .before .before .before .before .before .before .before .before .before .before .before .before .before .before .before .count-of .ensures) (c .before .before .before .before .before .before .before .before .before .before .before .before .before .before .before .before .before .before .before .count .given .1) (c .before .before .before .before .before .before .before .before .before .before .before .before .before .before .before .before .before .from .ensures .bytes) (c .before .before .before .before .before .before .before .before .before .before .before .before .before .before .before .before .check-keys .ensures) (c .before .before .before .before .before .before .before .before .before .before .before .before .before .before .enum-told .given .1)) (c .before .before .before .before .before .before .before .before .before .before .before .before .if1 .left) (ap (lhEntry (a .image .now) (a .base)) (c .before .before .before .before .before .before .before .before .before .before .before .before .before .before .before .before .before .from .ensures .bytes)) (c .before .before .before .before .before .before .before .before .before .before .put-header .ensures) (c .before .before .before .before .before .before .put-lh-entries .ensures) (c .before .before .put-rest .ensures)
 
 pub write-lh-spec : {M : Type 1} → statement M
 write-lh-spec =

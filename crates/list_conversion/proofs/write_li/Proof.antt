@@ -1,10 +1,10 @@
 use Prim.Native.Nat.{ℕ}
-use mathlib.Core.Path.{sym, ap, _∙_}
+use mathlib.Core.Path.{ap}
 use mathlib.Core.List.{List}
 use lib.ListN.{drop}
 use Rattle.sub_key_list.specs.Lists.{LI}
 use Rattle.cell_key_node.proofs.Fill.{up-length}
-use Rattle.list_conversion.specs.Entries.{offsetIn, countPaper, liEntries}
+use Rattle.list_conversion.specs.Entries.{offsetIn, liEntries}
 use Rattle.list_conversion.proofs.Entries.{li-uncounted, li-written}
 use Rattle.list_conversion.proofs.Answers.{li-size, conversion-refused, asks-header, asks-entries, asks-rest, row-full, row-written}
 use borrow.Author.Needs.{needs}
@@ -38,7 +38,7 @@ no-room-requires c κs = search needs
 returns : tie.Need-returns
 returns c =
     let a = c .before .before .before .before .before .before .before .before .before .before .args in
-    row-full LI 4 li-size _ (c .before .before .cell-size .ensures) (a .out .now) (offsetIn (drop (a .position) (a .list .now)) 8) (li-written (a .list .now) (a .position) (sym (ap countPaper (c .before .before .before .before .before .count .given .1)) ∙ c .before .before .before .before .before .before .before .count-of .ensures)) (c .before .if1 .taken) (c .no-room .result) (c .no-room .ensures)
+    row-full LI 4 li-size _ (c .before .before .cell-size .ensures) (a .out .now) (offsetIn (drop (a .position) (a .list .now)) 8) (li-written (a .list .now) (a .position) (c .before .before .before .before .before .before .before .count-of .ensures) (c .before .before .before .before .before .count .given .1)) (c .before .if1 .taken) (c .no-room .result) (c .no-room .ensures)
 
 put-header-requires : tie.Need-put-header-requires
 put-header-requires c κs = asks-header LI 4 li-size _ (c .before .before .cell-size .ensures) (c .before .before .before .before .before .before .before .before .before .before .args .out .now) (c .before .if1 .left)
@@ -52,7 +52,7 @@ put-rest-requires c κs = asks-rest LI 4 li-size _ (c .before .before .before .b
 returns-2 : tie.Need-returns-2
 returns-2 c =
     let a = c .before .before .before .before .before .before .before .args in
-    conversion-refused LI (liEntries (a .list .now) (a .position)) (a .out .now) (li-uncounted (a .list .now) (a .position) (sym (ap countPaper (c .before .before .fault .given .1)) ∙ c .before .before .before .before .count-of .ensures)) (c .refuse .result) (c .refuse .ensures)
+    conversion-refused LI (liEntries (a .list .now) (a .position)) (a .out .now) (li-uncounted (a .list .now) (a .position) (c .before .before .before .before .count-of .ensures) (c .before .before .fault .given .1)) (c .refuse .result) (c .refuse .ensures)
 
 same-length : tie.Need-same-length
 same-length c = search needs
@@ -60,7 +60,7 @@ same-length c = search needs
 returns-3 : tie.Need-returns-3
 returns-3 c =
     let a = c .before .before .before .before .before .before .before .before .before .before .before .before .before .before .before .before .before .before .before .before .before .args in
-    row-written LI 4 li-size _ (c .before .before .before .before .before .before .before .before .before .before .before .before .before .cell-size .ensures) (a .out .now) (offsetIn (drop (a .position) (a .list .now)) 8) (li-written (a .list .now) (a .position) (sym (ap countPaper (c .before .before .before .before .before .before .before .before .before .before .before .before .before .before .before .before .count .given .1)) ∙ c .before .before .before .before .before .before .before .before .before .before .before .before .before .before .before .before .before .before .count-of .ensures)) (c .before .before .before .before .before .before .before .before .before .before .before .before .if1 .left) (ap (λ (l : List ℕ). offsetIn l 8) (c .before .before .before .before .before .before .before .before .before .before .before .before .before .before .from .ensures .bytes)) (c .before .before .before .before .before .before .before .before .before .before .put-header .ensures) (c .before .before .before .before .before .before .put-li-entries .ensures) (c .before .before .put-rest .ensures)
+    row-written LI 4 li-size _ (c .before .before .before .before .before .before .before .before .before .before .before .before .before .cell-size .ensures) (a .out .now) (offsetIn (drop (a .position) (a .list .now)) 8) (li-written (a .list .now) (a .position) (c .before .before .before .before .before .before .before .before .before .before .before .before .before .before .before .before .before .before .count-of .ensures) (c .before .before .before .before .before .before .before .before .before .before .before .before .before .before .before .before .count .given .1)) (c .before .before .before .before .before .before .before .before .before .before .before .before .if1 .left) (ap (λ (l : List ℕ). offsetIn l 8) (c .before .before .before .before .before .before .before .before .before .before .before .before .before .before .from .ensures .bytes)) (c .before .before .before .before .before .before .before .before .before .before .put-header .ensures) (c .before .before .before .before .before .before .put-li-entries .ensures) (c .before .before .put-rest .ensures)
 
 pub write-li-spec : {M : Type 1} → statement M
 write-li-spec =

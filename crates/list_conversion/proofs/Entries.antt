@@ -1,27 +1,34 @@
 -- The list's count, the hashes of its keys, and the loop that judges them. Assumes nothing.
 use Prim.{Unit, tt}
-use mathlib.Core.Path.{_≡_, refl, sym, ap, _∙_}
+use mathlib.Core.Path.{_≡_, refl, sym, ap, subst, _∙_}
+use mathlib.Core.Bool.{Bool, true, false, cond}
 use mathlib.Core.List.{List, [], _∷_, _++_, map, map-append}
-use Prim.Native.Nat.{ℕ, zero, suc, _+_, _≤_, _<_}
+use Prim.Native.Nat.{ℕ, zero, suc, _+_, _*_, _/_, _%_, _≤_, _<_}
+use native.Mathlib.Nat.{mod-lt, not-suc-le-zero}
 use native.Mathlib.Numerals.{add-one}
-use lib.ListN.{length, drop, drop-of-length-le}
+use native.Mathlib.Omega.{arith}
+use lib.Dec.{leb, eqb}
+use lib.ListN.{length, getD, drop, drop-of-length-le}
 use lib.Seq.{drop-cons}
-use borrow.Author.Tests.{le-leb, lt-leb, eq-eqb, ne-eqb}
+use borrow.Author.Tests.{le-leb, lt-leb, eq-eqb, ne-eqb, eqb-true}
 use Rattle.words.specs.Paper.{Told, Paper, success, refused, by, told, verdictPaper, onSuccess}
 use Rattle.words.specs.declared.Refusal.{Refusal}
 use Rattle.words.specs.declared.Verdict.{Verdict}
 use Rattle.words.specs.declared.Verdict.the-variants.{Whole, Refused}
-use Rattle.words.specs.Refusals.{OUTSIDE, BAD-SIGN}
-use Rattle.words.proofs.Papers.{refused-success, on-refused-of}
-use Rattle.sub_key_list.specs.Lists.{LH, LI, leaf, index, listAt}
+use Rattle.words.specs.Refusals.{OUTSIDE, BAD-SIGN, BAD-NAME}
+use Rattle.words.proofs.Papers.{refused-success, same-success, on-success, on-success-of, on-refused-of}
+use Rattle.sub_key_list.specs.Lists.{LH, LI, entrySize, Listed, leaf, index, listAt}
 use Rattle.cell_key_node.specs.Key.{keyAt, keyName}
 use Rattle.cell_key_node.specs.ValueList.{upTo}
 use Rattle.cell_key_node.specs.declared.KeyNode.{KeyNode}
 use Rattle.cell_key_node.proofs.Fill.{up-length, up-at}
+use Rattle.name_hash.specs.Characters.{upperOf, characterOf}
 use Rattle.name_hash.specs.Hash.{nameHashOf}
+use Rattle.name_hash.specs.Hash as nameHash
 use Rattle.list_conversion.specs.declared.CountAnswer.{CountAnswer}
 use Rattle.list_conversion.specs.declared.CountAnswer.the-variants.{Count, Refused as NoCount}
-use Rattle.list_conversion.specs.Entries.{thenBy, onlyKind, countOf, countPaper, offsetIn, keyHash, entry, hashed, lhEntries, liEntries, judgedOf, hashOf, lhEntry}
+use Rattle.list_conversion.specs.Entries.{thenBy, onlyKind, countOf, countPaper, offsetIn, keyHash, entry, hashed, lhEntries, liEntries, judgedOf, orZero, hashOf, lhEntry}
+use Rattle.list_conversion.proofs.Lists.{leaf-read}
 
 -- ---- how many entries, by what the list is
 
@@ -43,6 +50,23 @@ module _ (kind : ℕ) (s : List ℕ) (p : ℕ) where
     unfolding countOf onlyKind
     count-known h = simp (← e, eq-eqb _ _ h)
 
+-- and back: the list that was counted
+pub count-of-list : (kind : ℕ) (s : List ℕ) (p : ℕ) {n : ℕ} → countOf kind s p ≡ success n → listAt s p ≡ success (leaf kind (entrySize kind) n)
+unfolding countOf onlyKind
+count-of-list kind s p {n} e = go (listAt s p) refl e
+  where
+    known : (b : Bool) {k m : ℕ} → eqb k kind ≡ b → cond b (success m) (refused (by BAD-SIGN p)) ≡ success n → (k ≡ kind) × (m ≡ n)
+    known true q f = (eqb-true _ _ q, same-success f)
+    known false q f = absurd (refused-success f)
+
+    go : (a : Paper Listed) → listAt s p ≡ a → onlyKind kind p a ≡ success n → listAt s p ≡ success (leaf kind (entrySize kind) n)
+    go (success (leaf k size m)) q f =
+        let r = known (eqb k kind) refl f in
+        let z : entrySize k ≡ size = leaf-read s p q .size-is in
+        q ∙ (λ i. success (leaf (r .0 i) (sym z i) (r .1 i))) ∙ ap (λ (u : ℕ). success (leaf kind (entrySize u) n)) (r .0)
+    go (success (index m)) q f = absurd (refused-success f)
+    go (refused t) q f = absurd (refused-success f)
+
 -- ---- the hash of an entry's key
 
 module _ (image : List ℕ) (base offset : ℕ) where
@@ -59,6 +83,45 @@ module _ (image : List ℕ) (base offset : ℕ) where
         → a ≡ nameHashOf (k .«key_node_flag_bits») name → a ≡ keyHash image base offset
     unfolding keyHash thenBy
     hash-read e n q = q ∙ simp (lt-leb _ _ h, ← e, ← n)
+
+-- a hash has 32 bits
+hash-small : (upper f : ℕ → ℕ) (n : ℕ) → nameHash.hashOf upper f n < 4294967296
+unfolding nameHash.hashOf
+hash-small upper f zero = omega arith
+hash-small upper f (suc n) = mod-lt (nameHash.hashOf upper f n * 37 + upper (f n)) {m = 4294967296} (omega arith)
+
+name-small : (flags : ℕ) (name : List ℕ) {h : ℕ} → nameHashOf flags name ≡ success h → h < 4294967296
+unfolding nameHashOf
+name-small flags name {h} e = go (eqb (flags / 32 % 2) 1) (eqb (length name % 2) 1) e
+  where
+    below : {x : ℕ} → x < 4294967296 → success x ≡ success h → h < 4294967296
+    below l q = subst (λ (u : ℕ). u < 4294967296) (same-success q) l
+
+    go : (a b : Bool)
+        → cond a (success (nameHash.hashOf upperOf (characterOf false name) (length name)))
+        (cond b (refused (by BAD-NAME 0)) (success (nameHash.hashOf upperOf (characterOf true name) (length name / 2)))) ≡ success h
+        → h < 4294967296
+    go true b q = below (hash-small upperOf (characterOf false name) (length name)) q
+    go false true q = absurd (refused-success q)
+    go false false q = below (hash-small upperOf (characterOf true name) (length name / 2)) q
+
+then-of : {A B : Type 0} (a : Paper A) (f : A → Paper B) {v : B} → thenBy a f ≡ success v → (u : A) × (a ≡ success u) × (f u ≡ success v)
+unfolding thenBy
+then-of (success u) f e = (u, refl, e)
+then-of (refused t) f e = absurd (refused-success e)
+
+pub key-hash-small : (image : List ℕ) (base offset : ℕ) {h : ℕ} → keyHash image base offset ≡ success h → h < 4294967296
+unfolding keyHash
+key-hash-small image base offset {h} e = go (leb 4294967296 (offset + base)) e
+  where
+    go : (b : Bool)
+        → cond b (refused (by OUTSIDE (offset + base)))
+        (thenBy (keyAt image (offset + base)) (λ (k : KeyNode). nameHashOf (k .«key_node_flag_bits») (keyName image (offset + base)))) ≡ success h
+        → h < 4294967296
+    go true q = absurd (refused-success q)
+    go false q =
+        let r = then-of (keyAt image (offset + base)) (λ (k : KeyNode). nameHashOf (k .«key_node_flag_bits») (keyName image (offset + base))) q in
+        name-small (r .0 .«key_node_flag_bits») (keyName image (offset + base)) (r .2)
 
 -- ---- the entries of an `lh` list, one by one
 
@@ -118,6 +181,52 @@ module _ (image : List ℕ) (base : ℕ) where
           → hashed image base (o ∷ os) ≡ success (map (λ x. entry x (hashOf image base x)) (o ∷ os))
       go (success h) q more = rw (q, more (sym (judged-hash image base o os q) ∙ e))
       go (refused t) q more = absurd (refused-success (sym (judged-refused image base o os q) ∙ e))
+
+  -- and each key has that hash
+  pub hashed-each : (os : List ℕ) → judgedOf image base os ≡ success tt → (i : ℕ) → i < length os
+      → keyHash image base (getD os i 0) ≡ success (hashOf image base (getD os i 0))
+  hashed-each [] e i l = absurd (not-suc-le-zero l)
+  hashed-each (o ∷ os) e i l = go (keyHash image base o) refl i l (hashed-each os)
+    where
+      go : (a : Paper ℕ) → keyHash image base o ≡ a → (i : ℕ) → i < length (o ∷ os)
+          → (judgedOf image base os ≡ success tt → (i : ℕ) → i < length os → keyHash image base (getD os i 0) ≡ success (hashOf image base (getD os i 0)))
+          → keyHash image base (getD (o ∷ os) i 0) ≡ success (hashOf image base (getD (o ∷ os) i 0))
+      go (refused t) q i l more = absurd (refused-success (sym (judged-refused image base o os q) ∙ e))
+      go (success h) q zero l more = q ∙ ap (λ (a : Paper ℕ). success (orZero a)) (sym q)
+      go (success h) q (suc i) l more = more (sym (judged-hash image base o os q) ∙ e) i (omega arith)
+
+-- ---- what was written, by its entries
+
+pub record LhOf (s : List ℕ) (p : ℕ) (image : List ℕ) (base : ℕ) (es : List ℕ) : Type 0 where
+  pub count : ℕ
+  pub list : listAt s p ≡ success (leaf LI 4 count)
+  pub entries : es ≡ upTo (lhEntry image base (drop p s)) count
+  pub hashes : (i : ℕ) → i < count → keyHash image base (offsetIn (drop p s) 4 i) ≡ success (hashOf image base (offsetIn (drop p s) 4 i))
+
+pub lh-of : (s : List ℕ) (p : ℕ) (image : List ℕ) (base : ℕ) {es : List ℕ} → lhEntries s p image base ≡ success es → LhOf s p image base es
+unfolding lhEntries entrySize
+lh-of s p image base e =
+    let r = then-of (countOf LI s p) (λ n. hashed image base (upTo (offsetIn (drop p s) 4) n)) e in
+    let n : ℕ = r .0 in
+    let f : ℕ → ℕ = offsetIn (drop p s) 4 in
+    let j : judgedOf image base (upTo f n) ≡ success tt = on-success (λ (es : List ℕ). tt {0}) (r .2) in
+    record {
+      count = n;
+      list = count-of-list LI s p (r .1);
+      entries = same-success (sym (r .2) ∙ hashed-all image base (upTo f n) j ∙ ap success (map-up (λ o. entry o (hashOf image base o)) f n));
+      hashes = λ i l. subst (λ (o : ℕ). keyHash image base o ≡ success (hashOf image base o)) (up-at f n i l) (hashed-each image base (upTo f n) j i (rw (up-length f n) l));
+    }
+
+pub record LiOf (s : List ℕ) (p : ℕ) (es : List ℕ) : Type 0 where
+  pub count : ℕ
+  pub list : listAt s p ≡ success (leaf LH 8 count)
+  pub entries : es ≡ upTo (offsetIn (drop p s) 8) count
+
+pub li-of : (s : List ℕ) (p : ℕ) {es : List ℕ} → liEntries s p ≡ success es → LiOf s p es
+unfolding liEntries entrySize
+li-of s p e =
+    let r = on-success-of (λ n. upTo (offsetIn (drop p s) 8) n) (countOf LH s p) e in
+    record { count = r .0; list = count-of-list LH s p (r .1); entries = sym (r .2) }
 
 -- ---- what is written, by what the code has found
 

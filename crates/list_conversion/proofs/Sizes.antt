@@ -1,6 +1,7 @@
 -- The size of a cell that is written. Assumes nothing.
-use Prim.Native.Nat.{ℕ, _+_, _-_, _≤_, _<_}
-use native.Mathlib.Nat.{div-add-mod, mod-lt}
+use mathlib.Core.Path.{_≡_}
+use Prim.Native.Nat.{ℕ, _+_, _/_, _%_, _≤_, _<_}
+use native.Mathlib.Nat.{div-add-mod, mod-lt, mul-mod-left}
 use native.Mathlib.Omega.{arith}
 use Rattle.sub_key_list.proofs.Cases.{entries-fit}
 use Rattle.list_conversion.specs.Cells.{listSize, cellSize}
@@ -18,3 +19,11 @@ module _ (size n : ℕ) where
   pub size-spare : cellSize size n < listSize size n + 8
   unfolding cellSize
   size-spare = omega (arith, div-add-mod (listSize size n + 7) 8)
+
+  -- a multiple of 8, and the least
+  pub size-multiple : cellSize size n % 8 ≡ 0
+  unfolding cellSize
+  size-multiple = mul-mod-left ((listSize size n + 7) / 8) 8
+
+  pub size-least : (m : ℕ) → m % 8 ≡ 0 → listSize size n ≤ m → cellSize size n ≤ m
+  size-least m e h = omega (arith, size-spare, div-add-mod m 8, div-add-mod (cellSize size n) 8, size-multiple)

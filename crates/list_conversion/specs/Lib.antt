@@ -1,3 +1,4 @@
 pub mod Cells
 pub mod Entries
 pub mod Answers
+pub mod Written

@@ -182,6 +182,10 @@ module _ (image : List ℕ) (base : ℕ) where
       go (success h) q more = rw (q, more (sym (judged-hash image base o os q) ∙ e))
       go (refused t) q more = absurd (refused-success (sym (judged-refused image base o os q) ∙ e))
 
+  pub hashed-up : (f : ℕ → ℕ) (n : ℕ) → judgedOf image base (upTo f n) ≡ success tt
+      → hashed image base (upTo f n) ≡ success (upTo (λ i. entry (f i) (hashOf image base (f i))) n)
+  hashed-up f n e = hashed-all (upTo f n) e ∙ ap success (map-up (λ o. entry o (hashOf image base o)) f n)
+
   -- and each key has that hash
   pub hashed-each : (os : List ℕ) → judgedOf image base os ≡ success tt → (i : ℕ) → i < length os
       → keyHash image base (getD os i 0) ≡ success (hashOf image base (getD os i 0))
@@ -195,7 +199,18 @@ module _ (image : List ℕ) (base : ℕ) where
       go (success h) q zero l more = q ∙ ap (λ (a : Paper ℕ). success (orZero a)) (sym q)
       go (success h) q (suc i) l more = more (sym (judged-hash image base o os q) ∙ e) i (omega arith)
 
+  -- where each has one, all is judged whole
+  pub judged-all : (os : List ℕ) → ((i : ℕ) → i < length os → (h : ℕ) × (keyHash image base (getD os i 0) ≡ success h)) → judgedOf image base os ≡ success tt
+  unfolding hashed onSuccess
+  judged-all [] h = refl
+  judged-all (o ∷ os) h = judged-hash image base o os (h 0 (omega arith) .1) ∙ judged-all os (λ i l. h (suc i) (omega arith))
+
 -- ---- what was written, by its entries
+
+pub lh-counted : (s : List ℕ) (p : ℕ) (image : List ℕ) (base : ℕ) {n : ℕ} → countOf LI s p ≡ success n
+    → lhEntries s p image base ≡ hashed image base (upTo (offsetIn (drop p s) 4) n)
+unfolding lhEntries thenBy
+lh-counted s p image base e = rw e
 
 pub record LhOf (s : List ℕ) (p : ℕ) (image : List ℕ) (base : ℕ) (es : List ℕ) : Type 0 where
   pub count : ℕ
@@ -213,9 +228,13 @@ lh-of s p image base e =
     record {
       count = n;
       list = count-of-list LI s p (r .1);
-      entries = same-success (sym (r .2) ∙ hashed-all image base (upTo f n) j ∙ ap success (map-up (λ o. entry o (hashOf image base o)) f n));
+      entries = same-success (sym (r .2) ∙ hashed-up image base f n j);
       hashes = λ i l. subst (λ (o : ℕ). keyHash image base o ≡ success (hashOf image base o)) (up-at f n i l) (hashed-each image base (upTo f n) j i (rw (up-length f n) l));
     }
+
+pub li-counted : (s : List ℕ) (p : ℕ) {n : ℕ} → countOf LH s p ≡ success n → liEntries s p ≡ success (upTo (offsetIn (drop p s) 8) n)
+unfolding liEntries onSuccess
+li-counted s p e = rw e
 
 pub record LiOf (s : List ℕ) (p : ℕ) (es : List ℕ) : Type 0 where
   pub count : ℕ
@@ -238,8 +257,7 @@ module _ (s : List ℕ) (p : ℕ) {r : CountAnswer} where
 
     module _ {n : ℕ} (e : r ≡ Count n) where
       counted : lhEntries s p image base ≡ hashed image base (upTo (offsetIn (drop p s) 4) n)
-      unfolding lhEntries thenBy
-      counted = rw (← c, e)
+      counted = lh-counted s p image base (sym c ∙ ap countPaper e)
 
       -- `l` is what stands from the list's size word on
       module _ {l : List ℕ} (b : l ≡ drop p s) {v : Verdict} (j : verdictPaper v ≡ judgedOf image base (upTo (offsetIn l 4) n)) where
@@ -252,8 +270,7 @@ module _ (s : List ℕ) (p : ℕ) {r : CountAnswer} where
 
         pub lh-written : v ≡ Whole → lhEntries s p image base ≡ success (upTo (lhEntry image base (drop p s)) n)
         lh-written q =
-            counted ∙ hashed-all image base (upTo (offsetIn (drop p s) 4) n) (verdict q)
-            ∙ ap success (map-up (λ o. entry o (hashOf image base o)) (offsetIn (drop p s) 4) n)
+            counted ∙ hashed-up image base (offsetIn (drop p s) 4) n (verdict q)
 
   module _ (c : countPaper r ≡ countOf LH s p) where
     pub li-uncounted : {f : Refusal} → r ≡ NoCount f → liEntries s p ≡ refused (told f)
@@ -261,5 +278,4 @@ module _ (s : List ℕ) (p : ℕ) {r : CountAnswer} where
     li-uncounted e = rw (← c, e)
 
     pub li-written : {n : ℕ} → r ≡ Count n → liEntries s p ≡ success (upTo (offsetIn (drop p s) 8) n)
-    unfolding liEntries onSuccess
-    li-written e = rw (← c, e)
+    li-written e = li-counted s p (sym c ∙ ap countPaper e)

@@ -6,3 +6,4 @@ pub mod Answers
 pub mod Reading
 pub mod Written
 pub mod Trips
+pub mod Exactly

@@ -1,5 +1,6 @@
 -- What the buffer holds after an answer, of the answer itself. Assumes nothing.
 use mathlib.Core.Path.{_≡_, refl, sym, ap, subst, _∙_}
+use mathlib.Core.Logic.{inl, inr}
 use mathlib.Core.Bool.{Bool, true, false, cond}
 use mathlib.Core.List.{List, [], _∷_, _++_}
 use Prim.Native.Nat.{ℕ, zero, suc, _+_, _-_, _*_, _/_, _%_, _^_, _≤_, _<_}
@@ -19,9 +20,8 @@ use Rattle.words.proofs.Papers.{same-success, on-success, on-success-of}
 use Rattle.words.proofs.Buffers.{room-success, filled}
 use Rattle.words.proofs.Signed.{magnitude-is}
 use Rattle.cell.specs.Cells.{magnitudeAt, allocatedAt}
-use Rattle.sub_key_list.specs.Lists.{LH, LI, RI, entrySize, Listed, leaf, index, ofKind, kindAt, countAt, listAt}
-use Rattle.sub_key_list.specs.Strict.{permitted}
-use Rattle.sub_key_list.specs.Profiles.{Met}
+use Rattle.sub_key_list.specs.Lists.{LF, LH, LI, RI, entrySize, Listed, leaf, index, ofKind, kindAt, countAt, listAt}
+use Rattle.sub_key_list.specs.Strict.{permitted, strictAt}
 use Rattle.sub_key_list.proofs.Cases.{list-leaf}
 use Rattle.sub_key_list.proofs.Profiles.{rule, accept}
 use Rattle.cell_key_node.specs.ValueList.{upTo}
@@ -32,7 +32,7 @@ use Rattle.writing.specs.Writing.{bytesOf}
 use Rattle.list_conversion.specs.Cells.{listSize, cellSize, cellWith, cellOf}
 use Rattle.list_conversion.specs.Entries.{offsetIn, keyHash, lhEntries, liEntries, hashOf, lhEntry}
 use Rattle.list_conversion.specs.Answers.{sizeOf, cellFor, Converted}
-use Rattle.list_conversion.specs.Written.{Bytes, offsetAt, hashAt, Became, WroteLh, WroteLi}
+use Rattle.list_conversion.specs.Written.{Bytes, offsetAt, hashAt, CellReads, Cells, Became, WroteLh, WroteLi}
 use Rattle.list_conversion.specs.declared.ConversionAnswer.the-variants.{Written}
 use Rattle.list_conversion.proofs.Sizes.{list-small, size-holds, size-spare, size-multiple, size-least}
 use Rattle.list_conversion.proofs.Lists.{leaf-read}
@@ -69,6 +69,25 @@ module _ (kind size : ℕ) (z : size ≡ entrySize kind) where
     pub room : n ≤ length old
     pub inside : n ≤ length new
     pub behind : drop n new ≡ drop n old
+
+  -- the strict reading accepts it
+  pub stands-strict :
+      (kind ≡ RI → ⊥) → (es old new : List ℕ) (n : ℕ) → Stands es old new n → (minor : ℕ) (named : Bool) → permitted kind minor ≡ true
+      → strictAt new minor named 0 ≡ success (leaf kind size (length es))
+  stands-strict no-index es old new n st minor named e =
+      let r = leaf-read new 0 (st .list) in
+      let m : magnitudeAt new 0 ≡ n = st .magnitude in
+      let y : n ≡ cellSize size (length es) = st .cell-is in
+      let h = size-holds size (length es) in
+      let i = st .inside in
+      accept new minor named 0 (leaf kind size (length es)) (st .list)
+      (record {
+        permitted = rw (r .kind-is) (rule minor .every kind .0 e);
+        top = λ u q. no-index (sym (r .kind-is) ∙ q);
+        allocated = st .allocated;
+        large = rw (r .kind-is, r .size-is, r .count-is) (omega arith);
+        inside = omega arith;
+      })
 
   module _
       (known : size ≡ 0 → ⊥) (no-index : kind ≡ RI → ⊥) (two : kind < 65536) (few : size < 256)
@@ -113,6 +132,41 @@ module _ (kind size : ℕ) (z : size ≡ entrySize kind) where
           let w : new ≡ after = g ∙ ap (λ (u : ℕ). cellWith size kind es ++ drop u old) whole in
           subst (λ (u : ℕ). Stands es old new u) c (subst (λ (l : List ℕ). Stands es old l cell) (sym w) (stands-after (omega arith)))
 
+-- ---- the cell by itself
+
+module _ (kind : ℕ) (es tail : List ℕ) (m : length es < 65536) where
+  cell-reads :
+      (entrySize kind ≡ 0 → ⊥) → (kind ≡ RI → ⊥) → kind < 65536 → entrySize kind < 256 → CellReads kind es tail
+  unfolding cellOf
+  cell-reads known no-index two few =
+      let z : ℕ = entrySize kind in
+      let c : ℕ = cellSize z (length es) in
+      let one : List ℕ = cellWith z kind es in
+      let w : length one ≡ c = whole kind z refl known no-index two few es m [] in
+      let e : drop c (one ++ tail) ≡ tail = drop-at one tail c w in
+      let fit : c ≤ length (one ++ tail) = omega (arith, length-append one tail) in
+      let st : Stands kind z refl es (one ++ tail) (one ++ tail) c =
+      subst (λ (l : List ℕ). Stands kind z refl es (one ++ tail) (one ++ l) c) e (stands-after kind z refl known no-index two few es m (one ++ tail) fit) in
+      record {
+        list = st .list;
+        entries = λ i l h.
+            let at : 0 + (8 + z * i) ≡ 8 + z * i + 0 = omega arith in
+            ap (little z (one ++ tail)) at ∙ st .words z i 0 l (omega arith) ∙ bytes-back z (getD es i 0) h;
+        long = w;
+        multiple = rw w (size-multiple z (length es));
+        holds = rw w (size-holds z (length es));
+        least = λ u q h. rw w (size-least z (length es) u q h);
+        magnitude = st .magnitude ∙ sym w;
+        allocated = st .allocated;
+        strict = stands-strict kind z refl no-index es (one ++ tail) (one ++ tail) c st;
+      }
+
+pub cells : Cells
+unfolding entrySize
+cells kind (inl e) es tail m = subst (λ (k : ℕ). CellReads k es tail) (sym e) (cell-reads LF es tail m (omega arith) (omega arith) (omega arith) (omega arith))
+cells kind (inr (inl e)) es tail m = subst (λ (k : ℕ). CellReads k es tail) (sym e) (cell-reads LH es tail m (omega arith) (omega arith) (omega arith) (omega arith))
+cells kind (inr (inr e)) es tail m = subst (λ (k : ℕ). CellReads k es tail) (sym e) (cell-reads LI es tail m (omega arith) (omega arith) (omega arith) (omega arith))
+
 -- ---- of an answer that wrote a cell
 
 -- its entries were found
@@ -135,21 +189,6 @@ module _
     size-is : n ≡ cellSize to-size count
     size-is = st .cell-is ∙ ap (cellSize to-size) k
 
-    met : (minor : ℕ) (named : Bool) → permitted to minor ≡ true → Met new minor named 0
-    met minor named e =
-        let r = leaf-read new 0 cell-read in
-        let m : magnitudeAt new 0 ≡ n = st .magnitude in
-        let h = size-holds to-size count in
-        let i = st .inside in
-        let y : n ≡ cellSize to-size count = size-is in
-        record {
-          permitted = rw (r .kind-is) (rule minor .every to .0 e);
-          top = λ u q. leafy (sym (r .kind-is) ∙ q);
-          allocated = st .allocated;
-          large = rw (r .kind-is, r .size-is, r .count-is) (omega arith);
-          inside = omega arith;
-        }
-
     pub became : ((i : ℕ) → i < count → offsetAt new 0 to-size i ≡ offsetAt s p from-size i) → Became from from-size to to-size s p old new n count
     became o =
         let y : n ≡ cellSize to-size count = size-is in
@@ -165,7 +204,7 @@ module _
           zeroed = λ i h g. st .zeroed i (rw k h) g;
           room = st .room;
           behind = st .behind;
-          strict = λ minor named e. accept new minor named 0 (leaf to to-size count) cell-read (met minor named e);
+          strict = λ minor named e. stands-strict to to-size z leafy es old new n st minor named e ∙ ap (λ (u : ℕ). success (leaf to to-size u)) k;
         }
 
 few-entries : (s : List ℕ) → Bytes s → (p : ℕ) {kind size n : ℕ} → listAt s p ≡ success (leaf kind size n) → n < 65536

@@ -1,20 +1,22 @@
 -- Document 02, order 10, of the functions' own answers: what stands in the buffer, when it is refused, and the way there and back. Proved in
 -- proofs/Written.antt and proofs/Trips.antt.
-use Prim.Native.Nat.{ℕ, _+_, _*_, _%_, _≤_, _<_}
+use Prim.Native.Nat.{ℕ, _+_, _*_, _%_, _^_, _≤_, _<_}
 use mathlib.Core.Path.{_≡_}
-use mathlib.Core.List.{List}
+use mathlib.Core.Logic.{_↔_, _⊎_}
+use mathlib.Core.List.{List, _++_}
 use mathlib.Core.Bool.{Bool, true}
-use lib.ListN.{length, take, drop}
-use Rattle.words.specs.Words.{byteAt, word32}
+use lib.ListN.{length, getD, take, drop}
+use Rattle.words.specs.Words.{byteAt, little, word32}
 use Rattle.words.specs.Refusals.{NO-ROOM}
 use Rattle.words.specs.Paper.{Paper, success}
 use Rattle.words.specs.declared.RoomRefusal.{RoomRefusal}
 use Rattle.cell.specs.Cells.{magnitudeAt, allocatedAt}
-use Rattle.sub_key_list.specs.Lists.{LH, LI, entrySize, leaf, listAt}
+use Rattle.sub_key_list.specs.Lists.{LF, LH, LI, entrySize, leaf, listAt}
 use Rattle.sub_key_list.specs.Strict.{permitted, strictAt}
-use Rattle.list_conversion.specs.Cells.{listSize, cellSize}
+use Rattle.list_conversion.specs.Cells.{listSize, cellSize, cellOf}
 use Rattle.list_conversion.specs.Entries.{keyHash, lhEntries, liEntries}
 use Rattle.list_conversion.specs.Answers.{LhAnswered, LiAnswered}
+use Rattle.list_conversion.specs.declared.ConversionAnswer.{ConversionAnswer}
 use Rattle.list_conversion.specs.declared.ConversionAnswer.the-variants.{Written, Refused}
 
 -- a slice holds bytes
@@ -30,6 +32,32 @@ offsetAt s p size i = word32 s (entryAt p size i)
 
 abbrev pub hashAt : List ℕ → ℕ → ℕ → ℕ
 hashAt s p i = word32 s (entryAt p 8 i + 4)
+
+-- ---- the cell, whatever its entries are
+
+-- a kind of leaf list
+abbrev pub Leafy : ℕ → Type 0
+Leafy kind = (kind ≡ LF) ⊎ (kind ≡ LH) ⊎ (kind ≡ LI)
+
+-- a cell at the start of a buffer that has any bytes behind it
+pub record CellReads (kind : ℕ) (es tail : List ℕ) : Type 0 where
+  -- document 01's reading of one list gives its kind and its count, and its entries one by one
+  pub list : listAt (cellOf kind es ++ tail) 0 ≡ success (leaf kind (entrySize kind) (length es))
+  pub entries : (i : ℕ) → i < length es → getD es i 0 < 256 ^ entrySize kind
+      → little (entrySize kind) (cellOf kind es ++ tail) (entryAt 0 (entrySize kind) i) ≡ getD es i 0
+  -- "the smallest multiple of 8 as size"
+  pub long : length (cellOf kind es) ≡ cellSize (entrySize kind) (length es)
+  pub multiple : length (cellOf kind es) % 8 ≡ 0
+  pub holds : listSize (entrySize kind) (length es) ≤ length (cellOf kind es)
+  pub least : (m : ℕ) → m % 8 ≡ 0 → listSize (entrySize kind) (length es) ≤ m → length (cellOf kind es) ≤ m
+  pub magnitude : magnitudeAt (cellOf kind es ++ tail) 0 ≡ length (cellOf kind es)
+  -- it is allocated, so order 9's strict reading accepts it where its kind is permitted
+  pub allocated : allocatedAt (cellOf kind es ++ tail) 0 ≡ true
+  pub strict : (minor : ℕ) (named : Bool) → permitted kind minor ≡ true
+      → strictAt (cellOf kind es ++ tail) minor named 0 ≡ success (leaf kind (entrySize kind) (length es))
+
+abbrev pub Cells : Type 0
+Cells = (kind : ℕ) → Leafy kind → (es tail : List ℕ) → length es < 65536 → CellReads kind es tail
 
 -- ---- one step
 
@@ -67,6 +95,25 @@ abbrev pub WroteLi : Type 0
 WroteLi =
     (s : List ℕ) → Bytes s → (p : ℕ) (old new : List ℕ) (n : ℕ)
     → LiAnswered s p old (Written n) new → (count : ℕ) × Became LH 8 LI 4 s p old new n count
+
+-- when a cell is written: exactly where the list is read, is of the kind that is taken, every entry of an `li` list names a key whose name
+-- has a hash, and the cell fits
+abbrev pub WasWritten : ConversionAnswer → Type 0
+WasWritten r = (n : ℕ) × (r ≡ Written n)
+
+abbrev pub ExactlyLh : Type 0
+ExactlyLh =
+    (s : List ℕ) (p : ℕ) (image : List ℕ) (base : ℕ) (old : List ℕ) (r : ConversionAnswer) (new : List ℕ) → LhAnswered s p image base old r new
+    → WasWritten r
+    ↔ ((count : ℕ)
+      × (listAt s p ≡ success (leaf LI 4 count))
+      × ((i : ℕ) → i < count → (h : ℕ) × (keyHash image base (offsetAt s p 4 i) ≡ success h))
+      × (cellSize 8 count ≤ length old))
+
+abbrev pub ExactlyLi : Type 0
+ExactlyLi =
+    (s : List ℕ) (p : ℕ) (old : List ℕ) (r : ConversionAnswer) (new : List ℕ) → LiAnswered s p old r new
+    → WasWritten r ↔ ((count : ℕ) × (listAt s p ≡ success (leaf LH 8 count)) × (cellSize 4 count ≤ length old))
 
 -- a refusal changes no byte; and 9 is given only where all else succeeds, with the bytes of the cell, which are more than there are
 pub record WasRefused (es : Paper (List ℕ)) (size : ℕ) (old new : List ℕ) (f : RoomRefusal) : Type 0 where

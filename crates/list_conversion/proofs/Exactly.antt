@@ -7,7 +7,6 @@ use Rattle.words.specs.Paper.{Paper, success}
 use Rattle.words.specs.Buffers.{needing, inRoom}
 use Rattle.words.proofs.Papers.{refused-success, same-success, on-success}
 use Rattle.words.proofs.Buffers.{room-success, room-fits}
-use Rattle.words.proofs.Little.{little-drop}
 use Rattle.sub_key_list.specs.Lists.{LH, LI, entrySize, leaf, listAt}
 use Rattle.cell_key_node.specs.ValueList.{upTo}
 use Rattle.cell_key_node.proofs.Fill.{up-length, up-at}
@@ -18,7 +17,7 @@ use Rattle.list_conversion.specs.Written.{offsetAt, WasWritten, ExactlyL
 use Rattle.list_conversion.specs.declared.ConversionAnswer.{ConversionAnswer}
 use Rattle.list_conversion.specs.declared.ConversionAnswer.the-variants.{Written, Refused}
 use Rattle.list_conversion.proofs.Entries.{count-known, hashed-up, judged-all, lh-counted, lh-of, li-counted, li-of}
-use Rattle.list_conversion.proofs.Written.{found}
+use Rattle.list_conversion.proofs.Written.{found, offset-there}
 
 -- ---- by the entries, which are f 0, f 1, .. before f n
 
@@ -41,9 +40,6 @@ module _ (kind : ℕ) (a : Paper (List ℕ)) (old : List ℕ) (r : ConversionAns
       go : (q : ConversionAnswer) {v : ℕ} → conversionPaper q ≡ success v → WasWritten q
       go (Written m) e = (m, refl)
       go (Refused g) e = absurd (refused-success e)
-
-offset-there : (s : List ℕ) (p size i : ℕ) → offsetIn (drop p s) size i ≡ offsetAt s p size i
-offset-there s p size i = little-drop 4 p s (8 + size * i)
 
 pub exactly-lh : ExactlyLh
 unfolding entrySize

@@ -7,3 +7,5 @@ pub mod Reading
 pub mod Written
 pub mod Trips
 pub mod Exactly
+pub mod Papers
+pub mod Examples

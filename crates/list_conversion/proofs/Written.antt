@@ -217,7 +217,7 @@ few-entries s b p {n = n} l =
 offset-small : (s : List ℕ) → Bytes s → (p size i : ℕ) → offsetIn (drop p s) size i < 4294967296
 offset-small s b p size i = rw (little-drop 4 p s (8 + size * i)) (little-lt 4 s b (p + (8 + size * i)))
 
-offset-there : (s : List ℕ) (p size i : ℕ) → offsetIn (drop p s) size i ≡ offsetAt s p size i
+pub offset-there : (s : List ℕ) (p size i : ℕ) → offsetIn (drop p s) size i ≡ offsetAt s p size i
 offset-there s p size i = little-drop 4 p s (8 + size * i)
 
 pub wrote-li : WroteLi

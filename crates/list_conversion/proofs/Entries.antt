@@ -16,7 +16,7 @@ use Rattle.words.specs.declared.Refusal.{Refusal}
 use Rattle.words.specs.declared.Verdict.{Verdict}
 use Rattle.words.specs.declared.Verdict.the-variants.{Whole, Refused}
 use Rattle.words.specs.Refusals.{OUTSIDE, BAD-SIGN, BAD-NAME}
-use Rattle.words.proofs.Papers.{refused-success, same-success, on-success, on-success-of, on-refused-of}
+use Rattle.words.proofs.Papers.{refused-success, same-success, on-success, on-success-of, on-refused, on-refused-of}
 use Rattle.sub_key_list.specs.Lists.{LH, LI, entrySize, Listed, leaf, index, listAt}
 use Rattle.cell_key_node.specs.Key.{keyAt, keyName}
 use Rattle.cell_key_node.specs.ValueList.{upTo}
@@ -27,7 +27,7 @@ use Rattle.name_hash.specs.Hash.{nameHashOf}
 use Rattle.name_hash.specs.Hash as nameHash
 use Rattle.list_conversion.specs.declared.CountAnswer.{CountAnswer}
 use Rattle.list_conversion.specs.declared.CountAnswer.the-variants.{Count, Refused as NoCount}
-use Rattle.list_conversion.specs.Entries.{thenBy, onlyKind, countOf, countPaper, offsetIn, keyHash, entry, hashed, lhEntries, liEntries, judgedOf, orZero, hashOf, lhEntry}
+use Rattle.list_conversion.specs.Entries.{thenBy, onlyKind, countOf, countPaper, offsetIn, keyHash, entry, hashed, lhEntries, liEntries, judgedOf, lhCount, orZero, hashOf, lhEntry}
 use Rattle.list_conversion.proofs.Lists.{leaf-read}
 
 -- ---- how many entries, by what the list is
@@ -67,20 +67,20 @@ count-of-list kind s p {n} e = go (listAt s p) refl e
     go (success (index m)) q f = absurd (refused-success f)
     go (refused t) q f = absurd (refused-success f)
 
--- ---- the hash of an entry's key
+-- ---- the hash of the key record at a place
 
-module _ (image : List ℕ) (base offset : ℕ) where
-  pub hash-outside : 4294967296 ≤ offset + base → refused (by OUTSIDE (offset + base)) ≡ keyHash image base offset
+module _ (image : List ℕ) (place : ℕ) where
+  pub hash-outside : 4294967296 ≤ place → refused (by OUTSIDE place) ≡ keyHash image place
   unfolding keyHash
   hash-outside h = simp (le-leb _ _ h)
 
-  module _ (h : offset + base < 4294967296) where
-    pub hash-unread : {t : Told} → refused t ≡ keyAt image (offset + base) → refused t ≡ keyHash image base offset
+  module _ (h : place < 4294967296) where
+    pub hash-unread : {t : Told} → refused t ≡ keyAt image place → refused t ≡ keyHash image place
     unfolding keyHash thenBy
     hash-unread e = simp (lt-leb _ _ h, ← e)
 
-    pub hash-read : {k : KeyNode} {name : List ℕ} {a : Paper ℕ} → success k ≡ keyAt image (offset + base) → name ≡ keyName image (offset + base)
-        → a ≡ nameHashOf (k .«key_node_flag_bits») name → a ≡ keyHash image base offset
+    pub hash-read : {k : KeyNode} {name : List ℕ} {a : Paper ℕ} → success k ≡ keyAt image place → name ≡ keyName image place
+        → a ≡ nameHashOf (k .«key_node_flag_bits») name → a ≡ keyHash image place
     unfolding keyHash thenBy
     hash-read e n q = q ∙ simp (lt-leb _ _ h, ← e, ← n)
 
@@ -110,18 +110,18 @@ unfolding thenBy
 then-of (success u) f e = (u, refl, e)
 then-of (refused t) f e = absurd (refused-success e)
 
-pub key-hash-small : (image : List ℕ) (base offset : ℕ) {h : ℕ} → keyHash image base offset ≡ success h → h < 4294967296
+pub key-hash-small : (image : List ℕ) (place : ℕ) {h : ℕ} → keyHash image place ≡ success h → h < 4294967296
 unfolding keyHash
-key-hash-small image base offset {h} e = go (leb 4294967296 (offset + base)) e
+key-hash-small image place {h} e = go (leb 4294967296 place) e
   where
     go : (b : Bool)
-        → cond b (refused (by OUTSIDE (offset + base)))
-        (thenBy (keyAt image (offset + base)) (λ (k : KeyNode). nameHashOf (k .«key_node_flag_bits») (keyName image (offset + base)))) ≡ success h
+        → cond b (refused (by OUTSIDE place))
+        (thenBy (keyAt image place) (λ (k : KeyNode). nameHashOf (k .«key_node_flag_bits») (keyName image place))) ≡ success h
         → h < 4294967296
     go true q = absurd (refused-success q)
     go false q =
-        let r = then-of (keyAt image (offset + base)) (λ (k : KeyNode). nameHashOf (k .«key_node_flag_bits») (keyName image (offset + base))) q in
-        name-small (r .0 .«key_node_flag_bits») (keyName image (offset + base)) (r .2)
+        let r = then-of (keyAt image place) (λ (k : KeyNode). nameHashOf (k .«key_node_flag_bits») (keyName image place)) q in
+        name-small (r .0 .«key_node_flag_bits») (keyName image place) (r .2)
 
 -- ---- the entries of an `lh` list, one by one
 
@@ -131,11 +131,11 @@ same-verdict e (success es) = refl
 same-verdict e (refused t) = refl
 
 module _ (image : List ℕ) (base : ℕ) where
-  pub judged-hash : (o : ℕ) (os : List ℕ) {h : ℕ} → keyHash image base o ≡ success h → judgedOf image base (o ∷ os) ≡ judgedOf image base os
+  pub judged-hash : (o : ℕ) (os : List ℕ) {h : ℕ} → keyHash image (o + base) ≡ success h → judgedOf image base (o ∷ os) ≡ judgedOf image base os
   unfolding hashed thenBy onSuccess
   judged-hash o os {h} e = rw e (same-verdict (entry o h) (hashed image base os))
 
-  pub judged-refused : (o : ℕ) (os : List ℕ) {t : Told} → keyHash image base o ≡ refused t → judgedOf image base (o ∷ os) ≡ refused t
+  pub judged-refused : (o : ℕ) (os : List ℕ) {t : Told} → keyHash image (o + base) ≡ refused t → judgedOf image base (o ∷ os) ≡ refused t
   unfolding hashed thenBy onSuccess
   judged-refused o os e = rw e
 
@@ -144,17 +144,17 @@ module _ (image : List ℕ) (base : ℕ) where
     abbrev pub rest : ℕ → List ℕ
     rest i = drop i (upTo f n)
 
-    rest-here : (i : ℕ) → i < n → {o : ℕ} → o ≡ f i → rest i ≡ o ∷ rest (i + 1)
-    rest-here i h e =
+    rest-here : (i : ℕ) → i < n → rest i ≡ f i ∷ rest (i + 1)
+    rest-here i h =
         let k : i < length (upTo f n) = rw (up-length f n) h in
-        rw (drop-cons (upTo f n) i 0 k, up-at f n i h, add-one, e)
+        rw (drop-cons (upTo f n) i 0 k, up-at f n i h, add-one)
 
-    module _ (i : ℕ) (h : i < n) {o : ℕ} (e : o ≡ f i) where
-      pub judging-on : {v : ℕ} → success v ≡ keyHash image base o → judgedOf image base (rest i) ≡ judgedOf image base (rest (i + 1))
-      judging-on q = ap (judgedOf image base) (rest-here i h e) ∙ judged-hash o (rest (i + 1)) (sym q)
+    module _ (i : ℕ) (h : i < n) {place : ℕ} (e : place ≡ f i + base) where
+      pub judging-on : {v : ℕ} → success v ≡ keyHash image place → judgedOf image base (rest i) ≡ judgedOf image base (rest (i + 1))
+      judging-on q = ap (judgedOf image base) (rest-here i h) ∙ judged-hash (f i) (rest (i + 1)) (sym (q ∙ ap (keyHash image) e))
 
-      pub judging-refused : {t : Told} → refused t ≡ keyHash image base o → judgedOf image base (rest i) ≡ refused t
-      judging-refused q = ap (judgedOf image base) (rest-here i h e) ∙ judged-refused o (rest (i + 1)) (sym q)
+      pub judging-refused : {t : Told} → refused t ≡ keyHash image place → judgedOf image base (rest i) ≡ refused t
+      judging-refused q = ap (judgedOf image base) (rest-here i h) ∙ judged-refused (f i) (rest (i + 1)) (sym (q ∙ ap (keyHash image) e))
 
     pub judging-end : (i : ℕ) → n ≤ i → judgedOf image base (rest i) ≡ success tt
     unfolding hashed onSuccess
@@ -174,9 +174,9 @@ module _ (image : List ℕ) (base : ℕ) where
   pub hashed-all : (os : List ℕ) → judgedOf image base os ≡ success tt → hashed image base os ≡ success (map (λ o. entry o (hashOf image base o)) os)
   unfolding hashed thenBy onSuccess
   hashed-all [] e = refl
-  hashed-all (o ∷ os) e = go (keyHash image base o) refl (hashed-all os)
+  hashed-all (o ∷ os) e = go (keyHash image (o + base)) refl (hashed-all os)
     where
-      go : (a : Paper ℕ) → keyHash image base o ≡ a
+      go : (a : Paper ℕ) → keyHash image (o + base) ≡ a
           → (judgedOf image base os ≡ success tt → hashed image base os ≡ success (map (λ x. entry x (hashOf image base x)) os))
           → hashed image base (o ∷ os) ≡ success (map (λ x. entry x (hashOf image base x)) (o ∷ os))
       go (success h) q more = rw (q, more (sym (judged-hash image base o os q) ∙ e))
@@ -188,19 +188,19 @@ module _ (image : List ℕ) (base : ℕ) where
 
   -- and each key has that hash
   pub hashed-each : (os : List ℕ) → judgedOf image base os ≡ success tt → (i : ℕ) → i < length os
-      → keyHash image base (getD os i 0) ≡ success (hashOf image base (getD os i 0))
+      → keyHash image (getD os i 0 + base) ≡ success (hashOf image base (getD os i 0))
   hashed-each [] e i l = absurd (not-suc-le-zero l)
-  hashed-each (o ∷ os) e i l = go (keyHash image base o) refl i l (hashed-each os)
+  hashed-each (o ∷ os) e i l = go (keyHash image (o + base)) refl i l (hashed-each os)
     where
-      go : (a : Paper ℕ) → keyHash image base o ≡ a → (i : ℕ) → i < length (o ∷ os)
-          → (judgedOf image base os ≡ success tt → (i : ℕ) → i < length os → keyHash image base (getD os i 0) ≡ success (hashOf image base (getD os i 0)))
-          → keyHash image base (getD (o ∷ os) i 0) ≡ success (hashOf image base (getD (o ∷ os) i 0))
+      go : (a : Paper ℕ) → keyHash image (o + base) ≡ a → (i : ℕ) → i < length (o ∷ os)
+          → (judgedOf image base os ≡ success tt → (i : ℕ) → i < length os → keyHash image (getD os i 0 + base) ≡ success (hashOf image base (getD os i 0)))
+          → keyHash image (getD (o ∷ os) i 0 + base) ≡ success (hashOf image base (getD (o ∷ os) i 0))
       go (refused t) q i l more = absurd (refused-success (sym (judged-refused image base o os q) ∙ e))
       go (success h) q zero l more = q ∙ ap (λ (a : Paper ℕ). success (orZero a)) (sym q)
       go (success h) q (suc i) l more = more (sym (judged-hash image base o os q) ∙ e) i (omega arith)
 
   -- where each has one, all is judged whole
-  pub judged-all : (os : List ℕ) → ((i : ℕ) → i < length os → (h : ℕ) × (keyHash image base (getD os i 0) ≡ success h)) → judgedOf image base os ≡ success tt
+  pub judged-all : (os : List ℕ) → ((i : ℕ) → i < length os → (h : ℕ) × (keyHash image (getD os i 0 + base) ≡ success h)) → judgedOf image base os ≡ success tt
   unfolding hashed onSuccess
   judged-all [] h = refl
   judged-all (o ∷ os) h = judged-hash image base o os (h 0 (omega arith) .1) ∙ judged-all os (λ i l. h (suc i) (omega arith))
@@ -216,7 +216,7 @@ pub record LhOf (s : List ℕ) (p : ℕ) (image : List ℕ) (base : ℕ) (es : L
   pub count : ℕ
   pub list : listAt s p ≡ success (leaf LI 4 count)
   pub entries : es ≡ upTo (lhEntry image base (drop p s)) count
-  pub hashes : (i : ℕ) → i < count → keyHash image base (offsetIn (drop p s) 4 i) ≡ success (hashOf image base (offsetIn (drop p s) 4 i))
+  pub hashes : (i : ℕ) → i < count → keyHash image (offsetIn (drop p s) 4 i + base) ≡ success (hashOf image base (offsetIn (drop p s) 4 i))
 
 pub lh-of : (s : List ℕ) (p : ℕ) (image : List ℕ) (base : ℕ) {es : List ℕ} → lhEntries s p image base ≡ success es → LhOf s p image base es
 unfolding lhEntries entrySize
@@ -229,7 +229,7 @@ lh-of s p image base e =
       count = n;
       list = count-of-list LI s p (r .1);
       entries = same-success (sym (r .2) ∙ hashed-up image base f n j);
-      hashes = λ i l. subst (λ (o : ℕ). keyHash image base o ≡ success (hashOf image base o)) (up-at f n i l) (hashed-each image base (upTo f n) j i (rw (up-length f n) l));
+      hashes = λ i l. subst (λ (o : ℕ). keyHash image (o + base) ≡ success (hashOf image base o)) (up-at f n i l) (hashed-each image base (upTo f n) j i (rw (up-length f n) l));
     }
 
 pub li-counted : (s : List ℕ) (p : ℕ) {n : ℕ} → countOf LH s p ≡ success n → liEntries s p ≡ success (upTo (offsetIn (drop p s) 8) n)
@@ -249,33 +249,45 @@ li-of s p e =
 
 -- ---- what is written, by what the code has found
 
-module _ (s : List ℕ) (p : ℕ) {r : CountAnswer} where
-  module _ (image : List ℕ) (base : ℕ) (c : countPaper r ≡ countOf LI s p) where
-    pub lh-uncounted : {f : Refusal} → r ≡ NoCount f → lhEntries s p image base ≡ refused (told f)
-    unfolding lhEntries thenBy
-    lh-uncounted e = rw (← c, e)
+module _ (s : List ℕ) (p : ℕ) (image : List ℕ) (base : ℕ) where
+  module _ {r : CountAnswer} (c : countPaper r ≡ countOf LI s p) where
+    pub judge-uncounted : {f : Refusal} → r ≡ NoCount f → refused (told f) ≡ lhCount s p image base
+    unfolding lhEntries thenBy onSuccess
+    judge-uncounted e = rw (← c, e)
 
-    module _ {n : ℕ} (e : r ≡ Count n) where
-      counted : lhEntries s p image base ≡ hashed image base (upTo (offsetIn (drop p s) 4) n)
-      counted = lh-counted s p image base (sym c ∙ ap countPaper e)
+    counted : {n : ℕ} → r ≡ Count n → lhEntries s p image base ≡ hashed image base (upTo (offsetIn (drop p s) 4) n)
+    counted e = lh-counted s p image base (sym c ∙ ap countPaper e)
 
-      -- `l` is what stands from the list's size word on
-      module _ {l : List ℕ} (b : l ≡ drop p s) {v : Verdict} (j : verdictPaper v ≡ judgedOf image base (upTo (offsetIn l 4) n)) where
-        verdict : {w : Verdict} → v ≡ w → judgedOf image base (upTo (offsetIn (drop p s) 4) n) ≡ verdictPaper w
-        verdict q = sym (sym (ap verdictPaper q) ∙ j ∙ ap (λ (k : List ℕ). judgedOf image base (upTo (offsetIn k 4) n)) b)
+    module _ {n : ℕ} (e : r ≡ Count n) {l : List ℕ} (b : l ≡ drop p s) {v : Verdict} (j : verdictPaper v ≡ judgedOf image base (upTo (offsetIn l 4) n)) where
+      verdict : {w : Verdict} → v ≡ w → judgedOf image base (upTo (offsetIn (drop p s) 4) n) ≡ verdictPaper w
+      verdict q = sym (sym (ap verdictPaper q) ∙ j ∙ ap (λ (k : List ℕ). judgedOf image base (upTo (offsetIn k 4) n)) b)
 
-        pub lh-refused : {f : Refusal} → v ≡ Refused f → lhEntries s p image base ≡ refused (told f)
-        lh-refused q =
-            counted ∙ on-refused-of (λ (es : List ℕ). tt {0}) (hashed image base (upTo (offsetIn (drop p s) 4) n)) (verdict q)
+      pub judge-refused : {f : Refusal} → v ≡ Refused f → refused (told f) ≡ lhCount s p image base
+      judge-refused q =
+          sym (on-refused _ (counted e ∙ on-refused-of (λ (es : List ℕ). tt {0}) (hashed image base (upTo (offsetIn (drop p s) 4) n)) (verdict q)))
 
-        pub lh-written : v ≡ Whole → lhEntries s p image base ≡ success (upTo (lhEntry image base (drop p s)) n)
-        lh-written q =
-            counted ∙ hashed-up image base (offsetIn (drop p s) 4) n (verdict q)
+      pub judge-whole : v ≡ Whole → success n ≡ lhCount s p image base
+      judge-whole q =
+          ap success (sym (up-length (lhEntry image base (drop p s)) n))
+          ∙ sym (on-success _ (counted e ∙ hashed-up image base (offsetIn (drop p s) 4) n (verdict q)))
 
-  module _ (c : countPaper r ≡ countOf LH s p) where
-    pub li-uncounted : {f : Refusal} → r ≡ NoCount f → liEntries s p ≡ refused (told f)
-    unfolding liEntries onSuccess
-    li-uncounted e = rw (← c, e)
+  -- ---- judged, it is laid
 
-    pub li-written : {n : ℕ} → r ≡ Count n → liEntries s p ≡ success (upTo (offsetIn (drop p s) 8) n)
-    li-written e = li-counted s p (sym c ∙ ap countPaper e)
+  module _ {r : CountAnswer} (c : countPaper r ≡ lhCount s p image base) where
+    pub lay-refused : {f : Refusal} → r ≡ NoCount f → lhEntries s p image base ≡ refused (told f)
+    lay-refused e = on-refused-of (λ (es : List ℕ). length es) (lhEntries s p image base) (sym c ∙ ap countPaper e)
+
+    pub lay-lh : {n : ℕ} → r ≡ Count n → lhEntries s p image base ≡ success (upTo (lhEntry image base (drop p s)) n)
+    lay-lh {n} e =
+        let w = on-success-of (λ (es : List ℕ). length es) (lhEntries s p image base) (sym c ∙ ap countPaper e) in
+        let o = lh-of s p image base (w .1) in
+        let k : o .count ≡ n = sym (up-length (lhEntry image base (drop p s)) (o .count)) ∙ ap length (sym (o .entries)) ∙ w .2 in
+        w .1 ∙ ap success (o .entries ∙ ap (upTo (lhEntry image base (drop p s))) k)
+
+module _ (s : List ℕ) (p : ℕ) {r : CountAnswer} (c : countPaper r ≡ countOf LH s p) where
+  pub lay-uncounted : {f : Refusal} → r ≡ NoCount f → liEntries s p ≡ refused (told f)
+  unfolding liEntries onSuccess
+  lay-uncounted e = rw (← c, e)
+
+  pub lay-li : {n : ℕ} → r ≡ Count n → liEntries s p ≡ success (upTo (offsetIn (drop p s) 8) n)
+  lay-li e = li-counted s p (sym c ∙ ap countPaper e)

@@ -51,4 +51,3 @@ leaf-read s p {kind} {size} {n} e =
         let l : entrySize (kindAt s p) * countAt s p ≤ length s - p - 8 = ltb-false _ _ w in
         let m : size * n ≤ length s - p - 8 = rw (k .1, k .2) at l in
         record { inside = omega arith; kind-is = k .0; size-is = ap entrySize (sym (k .0)) ∙ k .1; count-is = k .2 }
-

@@ -77,12 +77,13 @@ pub from-lh : FromLh
 from-lh s b p old new n x t bt q e image base old′ new′ m x′ =
     let one = wrote-li s b p old new n x in
     let two = wrote-lh t bt q image base old′ new′ m x′ in
-    let k : two .0 ≡ one .0 = same-count LH 8 LI 4 s p old new n (one .0) (one .1) t q e old′ new′ m (two .0) (two .1) in
-    (one .0,
-    same-entries LH 8 LI 4 s p old new n (one .0) (one .1) t q e old′ new′ m (two .0) (two .1) (omega arith),
-    λ i l r.
-    let o : offsetAt t q 4 i ≡ offsetAt s p 8 i = lent-offset LH 8 LI 4 s p old new n (one .0) (one .1) t q e old′ new′ m (two .0) (two .1) (omega arith) i l in
-    same-success (sym (two .2 i (omega arith)) ∙ ap (keyHash image base) o ∙ r))
+    let k : two .0 ≡ one .0 = same-count LH 8 LI 4 s p old new n (one .0) (one .1) t q e old′ new′ m (two .0) (two .1) in (
+      one .0,
+      same-entries LH 8 LI 4 s p old new n (one .0) (one .1) t q e old′ new′ m (two .0) (two .1) (omega arith),
+      λ i l r.
+          let o : offsetAt t q 4 i ≡ offsetAt s p 8 i = lent-offset LH 8 LI 4 s p old new n (one .0) (one .1) t q e old′ new′ m (two .0) (two .1) (omega arith) i l in
+          same-success (sym (two .2 i (omega arith)) ∙ ap (λ (u : ℕ). keyHash image (u + base)) o ∙ r),
+    )
 
 -- ---- an answer that refuses
 
@@ -112,17 +113,17 @@ name-plain flags name =
     plainly-cond (eqb (flags / 32 % 2) 1) (plainly-success _)
     (plainly-cond (eqb (length name % 2) 1) (plainly-by BAD-NAME 0 (omega arith)) (plainly-success _))
 
-hash-plain : (image : List ℕ) (base offset : ℕ) → Plainly (keyHash image base offset)
+hash-plain : (image : List ℕ) (place : ℕ) → Plainly (keyHash image place)
 unfolding keyHash
-hash-plain image base offset =
-    plainly-cond (leb 4294967296 (offset + base)) (plainly-by OUTSIDE (offset + base) (omega arith))
-    (then-plain (keyAt image (offset + base)) _ (key-plain image (offset + base)) (λ k. name-plain (k .«key_node_flag_bits») (keyName image (offset + base))))
+hash-plain image place =
+    plainly-cond (leb 4294967296 place) (plainly-by OUTSIDE place (omega arith))
+    (then-plain (keyAt image place) _ (key-plain image place) (λ k. name-plain (k .«key_node_flag_bits») (keyName image place)))
 
 hashed-plain : (image : List ℕ) (base : ℕ) (os : List ℕ) → Plainly (hashed image base os)
 unfolding hashed
 hashed-plain image base [] = plainly-success []
 hashed-plain image base (o ∷ os) =
-    then-plain (keyHash image base o) _ (hash-plain image base o) (λ h. plainly-on (λ (es : List ℕ). entry o h ∷ es) (hashed image base os) (hashed-plain image base os))
+    then-plain (keyHash image (o + base)) _ (hash-plain image (o + base)) (λ h. plainly-on (λ (es : List ℕ). entry o h ∷ es) (hashed image base os) (hashed-plain image base os))
 
 lh-plain : (s : List ℕ) (p : ℕ) (image : List ℕ) (base : ℕ) → Plainly (lhEntries s p image base)
 unfolding lhEntries

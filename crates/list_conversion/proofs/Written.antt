@@ -1,30 +1,24 @@
 -- What the buffer holds after an answer, of the answer itself. Assumes nothing.
 use mathlib.Core.Path.{_≡_, refl, sym, ap, subst, _∙_}
 use mathlib.Core.Logic.{inl, inr}
-use mathlib.Core.Bool.{Bool, true, false, cond}
-use mathlib.Core.List.{List, [], _∷_, _++_}
-use Prim.Native.Nat.{ℕ, zero, suc, _+_, _-_, _*_, _/_, _%_, _^_, _≤_, _<_}
+use mathlib.Core.Bool.{Bool, true}
+use mathlib.Core.List.{List, [], _++_}
+use Prim.Native.Nat.{ℕ, _+_, _-_, _*_, _≤_, _<_}
 use native.Mathlib.Omega.{arith}
-use lib.Dec.{ltb, eqb}
-use lib.IntN.{pos, negsuc, natAbs}
 use lib.ListN.{length, getD, drop, length-append}
 use lib.Seq.{drop-at}
-use lib.Signed.{ltZ}
-use mir.Syntax.{w32}
-use mir.Val.{toZ}
-use borrow.Author.Tests.{le-ltb, ltb-false, eqb-true}
+use borrow.Author.Tests.{le-ltb}
 use Rattle.words.specs.Words.{byteAt, little, word32, signed}
-use Rattle.words.specs.Paper.{Told, Paper, success, refused}
+use Rattle.words.specs.Paper.{Paper, success}
 use Rattle.words.specs.Buffers.{needing}
 use Rattle.words.proofs.Papers.{same-success, on-success, on-success-of}
 use Rattle.words.proofs.Buffers.{room-success, filled}
 use Rattle.words.proofs.Signed.{magnitude-is}
 use Rattle.cell.specs.Cells.{magnitudeAt, allocatedAt}
-use Rattle.sub_key_list.specs.Lists.{LF, LH, LI, RI, entrySize, Listed, leaf, index, ofKind, kindAt, countAt, listAt}
+use Rattle.sub_key_list.specs.Lists.{LF, LH, LI, RI, entrySize, leaf, countAt, listAt}
 use Rattle.sub_key_list.specs.Strict.{permitted, strictAt}
 use Rattle.sub_key_list.proofs.Cases.{list-leaf}
 use Rattle.sub_key_list.proofs.Profiles.{rule, accept}
-use Rattle.cell_key_node.specs.ValueList.{upTo}
 use Rattle.cell_key_node.proofs.Fill.{up-length, up-at}
 use Rattle.words.proofs.Little.{little-lt, little-drop}
 use Rattle.writing.proofs.Writing.{bytes-back}
@@ -228,13 +222,15 @@ wrote-li s b p old new n x =
     let f : ℕ → ℕ = offsetIn (drop p s) 8 in
     let k : length es ≡ o .count = ap length (o .entries) ∙ up-length f (o .count) in
     let c : o .count < 65536 = few-entries s b p (o .list) in
-    let st = stands LI 4 li-size (omega arith) (omega arith) (omega arith) (omega arith) es (omega arith) old (liEntries s p) (y .1) n new x in
-    (o .count, became LH 8 LI 4 li-size (omega arith) s p (o .count) (o .list) es old new k n st
-    (λ i l.
-    let e : getD es i 0 ≡ f i = ap (λ (r : List ℕ). getD r i 0) (o .entries) ∙ up-at f (o .count) i l in
-    let at : 0 + (8 + 4 * i) ≡ 8 + 4 * i + 0 = omega arith in
-    ap (word32 new) at ∙ st .words 4 i 0 (omega arith) (omega arith) ∙ ap (λ (u : ℕ). little 4 (bytesOf 4 u) 0) e
-    ∙ bytes-back 4 (f i) (offset-small s b p 8 i) ∙ offset-there s p 8 i))
+    let st = stands LI 4 li-size (omega arith) (omega arith) (omega arith) (omega arith) es (omega arith) old (liEntries s p) (y .1) n new x in (
+      o .count,
+      became LH 8 LI 4 li-size (omega arith) s p (o .count) (o .list) es old new k n st
+          (λ i l.
+          let e : getD es i 0 ≡ f i = ap (λ (r : List ℕ). getD r i 0) (o .entries) ∙ up-at f (o .count) i l in
+          let at : 0 + (8 + 4 * i) ≡ 8 + 4 * i + 0 = omega arith in
+          ap (word32 new) at ∙ st .words 4 i 0 (omega arith) (omega arith) ∙ ap (λ (u : ℕ). little 4 (bytesOf 4 u) 0) e
+          ∙ bytes-back 4 (f i) (offset-small s b p 8 i) ∙ offset-there s p 8 i),
+    )
 
 pub wrote-lh : WroteLh
 wrote-lh s b p image base old new n x =
@@ -249,12 +245,14 @@ wrote-lh s b p image base old new n x =
     let word : (i : ℕ) → i < o .count → (j : ℕ) → j + 4 ≤ 8 → little 4 new (8 + 8 * i + j) ≡ little 4 (bytesOf 8 (f i)) j =
     λ i l j q. st .words 4 i j (omega arith) q ∙ ap (λ (u : ℕ). little 4 (bytesOf 8 u) j) (ap (λ (r : List ℕ). getD r i 0) (o .entries) ∙ up-at f (o .count) i l) in
     let both : (i : ℕ) → i < o .count → (little 4 (bytesOf 8 (f i)) 0 ≡ g i) × (little 4 (bytesOf 8 (f i)) 4 ≡ hashOf image base (g i)) =
-    λ i l. entry-words (g i) (hashOf image base (g i)) (offset-small s b p 4 i) (key-hash-small image base (g i) (o .hashes i l)) in
-    (o .count, became LI 4 LH 8 lh-size (omega arith) s p (o .count) (o .list) es old new k n st
-    (λ i l.
-    let at : 0 + (8 + 8 * i) ≡ 8 + 8 * i + 0 = omega arith in
-    ap (word32 new) at ∙ word i l 0 (omega arith) ∙ both i l .0 ∙ offset-there s p 4 i),
-    λ i l.
-    let at : 8 + 8 * i + 4 ≡ 0 + (8 + 8 * i) + 4 = omega arith in
-    let h : hashOf image base (g i) ≡ hashAt new 0 i = sym (both i l .1) ∙ sym (word i l 4 (omega arith)) ∙ ap (word32 new) at in
-    ap (keyHash image base) (sym (offset-there s p 4 i)) ∙ o .hashes i l ∙ ap success h)
+    λ i l. entry-words (g i) (hashOf image base (g i)) (offset-small s b p 4 i) (key-hash-small image (g i + base) (o .hashes i l)) in (
+      o .count,
+      became LI 4 LH 8 lh-size (omega arith) s p (o .count) (o .list) es old new k n st
+          (λ i l.
+          let at : 0 + (8 + 8 * i) ≡ 8 + 8 * i + 0 = omega arith in
+          ap (word32 new) at ∙ word i l 0 (omega arith) ∙ both i l .0 ∙ offset-there s p 4 i),
+      λ i l.
+          let at : 8 + 8 * i + 4 ≡ 0 + (8 + 8 * i) + 4 = omega arith in
+          let h : hashOf image base (g i) ≡ hashAt new 0 i = sym (both i l .1) ∙ sym (word i l 4 (omega arith)) ∙ ap (word32 new) at in
+          ap (λ (u : ℕ). keyHash image (u + base)) (sym (offset-there s p 4 i)) ∙ o .hashes i l ∙ ap success h,
+    )

@@ -4,7 +4,7 @@ use Prim.Native.Nat.{ℕ, _+_, _*_}
 use mathlib.Core.List.{List, [], _∷_}
 use mathlib.Core.Bool.{cond}
 use lib.Dec.{leb, eqb}
-use lib.ListN.{drop}
+use lib.ListN.{length, drop}
 use Rattle.words.specs.Words.{word32}
 use Rattle.words.specs.Refusals.{OUTSIDE, BAD-SIGN}
 use Rattle.words.specs.Paper.{Paper, success, refused, by, told, onSuccess}
@@ -42,21 +42,21 @@ offsetIn list size i = word32 list (8 + size * i)
 
 -- ---- the hashes: "each hash worked out from the key record that the entry names"
 
--- "entry by entry 2 for an offset plus base above 32 bits; those of the key record or hash". A refusal tells the position of the
--- record, and 0 for "5 on a hash".
-unfoldable pub keyHash : List ℕ → ℕ → ℕ → Paper ℕ
-keyHash image base offset =
-    cond (leb 4294967296 (offset + base)) (refused (by OUTSIDE (offset + base)))
-    (thenBy (keyAt image (offset + base)) (λ (k : KeyNode). nameHashOf (k .«key_node_flag_bits») (keyName image (offset + base))))
+-- of the key record at a place, which is an entry's offset plus base: "2 for an offset plus base above 32 bits; those of the key record or
+-- hash". A refusal tells the position of the record, and 0 for "5 on a hash".
+unfoldable pub keyHash : List ℕ → ℕ → Paper ℕ
+keyHash image place =
+    cond (leb 4294967296 place) (refused (by OUTSIDE place))
+    (thenBy (keyAt image place) (λ (k : KeyNode). nameHashOf (k .«key_node_flag_bits») (keyName image place)))
 
 -- an entry of an `lh` list, as the number that its 8 bytes are: the offset, and the hash behind it
 abbrev pub entry : ℕ → ℕ → ℕ
 entry offset hash = offset + 4294967296 * hash
 
--- the entries of an `lh` list with these offsets: the first that is refused decides
+-- the entries of an `lh` list with these offsets, "entry by entry": the first that is refused decides
 unfoldable pub hashed : List ℕ → ℕ → List ℕ → Paper (List ℕ)
 hashed image base [] = success []
-hashed image base (o ∷ os) = thenBy (keyHash image base o) (λ h. onSuccess (λ es. entry o h ∷ es) (hashed image base os))
+hashed image base (o ∷ os) = thenBy (keyHash image (o + base)) (λ h. onSuccess (λ es. entry o h ∷ es) (hashed image base os))
 
 -- ---- what is written
 
@@ -74,13 +74,17 @@ liEntries s p = onSuccess (λ n. upTo (offsetIn (drop p s) 8) n) (countOf LH s p
 abbrev pub judgedOf : List ℕ → ℕ → List ℕ → Paper (Unit {0})
 judgedOf image base os = onSuccess (λ es. tt) (hashed image base os)
 
+-- how many entries are to be written
+abbrev pub lhCount : List ℕ → ℕ → List ℕ → ℕ → Paper ℕ
+lhCount s p image base = onSuccess (λ (es : List ℕ). length es) (lhEntries s p image base)
+
 -- the hash of an offset's key, and 0 where it has none
 abbrev pub orZero : Paper ℕ → ℕ
 orZero (success h) = h
 orZero (refused t) = 0
 
 abbrev pub hashOf : List ℕ → ℕ → ℕ → ℕ
-hashOf image base offset = orZero (keyHash image base offset)
+hashOf image base offset = orZero (keyHash image (offset + base))
 
 -- entry i of the `lh` list that an `li` list becomes
 abbrev pub lhEntry : List ℕ → ℕ → List ℕ → ℕ → ℕ

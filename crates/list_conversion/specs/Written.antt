@@ -83,7 +83,7 @@ pub record Became (from from-size to to-size : ℕ) (s : List ℕ) (p : ℕ) (ol
 
 -- "with each hash worked out from the key record that the entry names"
 abbrev pub Hashed : List ℕ → ℕ → ℕ → List ℕ → ℕ → List ℕ → Type 0
-Hashed image base count s p new = (i : ℕ) → i < count → keyHash image base (offsetAt s p 4 i) ≡ success (hashAt new 0 i)
+Hashed image base count s p new = (i : ℕ) → i < count → keyHash image (offsetAt s p 4 i + base) ≡ success (hashAt new 0 i)
 
 abbrev pub WroteLh : Type 0
 WroteLh =
@@ -106,9 +106,9 @@ ExactlyLh =
     (s : List ℕ) (p : ℕ) (image : List ℕ) (base : ℕ) (old : List ℕ) (r : ConversionAnswer) (new : List ℕ) → LhAnswered s p image base old r new
     → WasWritten r
     ↔ ((count : ℕ)
-      × (listAt s p ≡ success (leaf LI 4 count))
-      × ((i : ℕ) → i < count → (h : ℕ) × (keyHash image base (offsetAt s p 4 i) ≡ success h))
-      × (cellSize 8 count ≤ length old))
+    × (listAt s p ≡ success (leaf LI 4 count))
+    × ((i : ℕ) → i < count → (h : ℕ) × (keyHash image (offsetAt s p 4 i + base) ≡ success h))
+    × (cellSize 8 count ≤ length old))
 
 abbrev pub ExactlyLi : Type 0
 ExactlyLi =
@@ -157,4 +157,4 @@ FromLh =
     → (t : List ℕ) → Bytes t → (q : ℕ) → Lent n new t q → (image : List ℕ) (base : ℕ) (old′ new′ : List ℕ) (m : ℕ)
     → LhAnswered t q image base old′ (Written m) new′
     → (count : ℕ) × SameEntries LH 8 s p new′ count
-    × ((i : ℕ) → i < count → keyHash image base (offsetAt s p 8 i) ≡ success (hashAt s p i) → hashAt new′ 0 i ≡ hashAt s p i)
+    × ((i : ℕ) → i < count → keyHash image (offsetAt s p 8 i + base) ≡ success (hashAt s p i) → hashAt new′ 0 i ≡ hashAt s p i)

@@ -12,11 +12,12 @@ ghost use lib.ListN.{length};
 ghost use Rattle.words.specs.Refusals.{BAD-SIGN};
 ghost use Rattle.words.specs.Paper.{refused, by, told, verdictPaper};
 ghost use Rattle.words.specs.Buffers.{needing};
+ghost use Rattle.sub_key_list.specs.Lists as kinds;
 ghost use Rattle.cell_key_node.specs.ValueList.{upTo};
 ghost use Rattle.name_hash.specs.Hash.{hashPaper};
 ghost use Rattle.writing.specs.Writing.{withBytes, bytesOf};
 ghost use Rattle.list_conversion.specs.Cells.{cellSize, header, rowBytes};
-ghost use Rattle.list_conversion.specs.Entries.{offsetIn, countOf, countPaper, keyHash, hashOf, judgedOf, lhEntry};
+ghost use Rattle.list_conversion.specs.Entries.{offsetIn, countOf, countPaper, keyHash, judgedOf, lhCount, orZero, lhEntry};
 ghost use Rattle.list_conversion.specs.Answers.{conversionPaper, LhAnswered, LiAnswered};
 
 // The kinds of list that are written, each by the word of its two letters, and the bytes of an entry of each.
@@ -72,12 +73,19 @@ fn count_of(list: &[u8], position: usize, kind: u16) -> CountAnswer
     }
 }
 
-// The hash of the name of the key record that an entry names.
-fn key_hash(image: &[u8], base: u32, offset: u32) -> HashAnswer
-    ensures { λ r. ⌜ hashPaper r ≡ keyHash (now (image .entry)) base offset ⌝ }
+// Where the key record is that an entry of an `li` list names; the list begins with its size word.
+fn place_of(list: &[u8], i: u16, base: u32) -> usize
+    ensures { λ r. ⌜ r ≡ offsetIn (now (list .entry)) 4 i + base ⌝ }
 {
+    let offset = words::u32_at(list, HEADER + 4 * (i as usize));
     let relative = offset as usize;
-    let place = relative + base as usize;
+    relative + base as usize
+}
+
+// The hash of the name of the key record at a place.
+fn key_hash(image: &[u8], place: usize) -> HashAnswer
+    ensures { λ r. ⌜ hashPaper r ≡ keyHash (now (image .entry)) place ⌝ }
+{
     if ADDRESSES <= place {
         return HashAnswer::Refused(Refusal {
             number: words::OUTSIDE,
@@ -93,14 +101,14 @@ fn key_hash(image: &[u8], base: u32, offset: u32) -> HashAnswer
     }
 }
 
-// Whether every entry of an `li` list, which begins with its size word, names a key whose name has a hash: the first that does not refuses.
+// Whether every entry of an `li` list names a key whose name has a hash: the first that does not refuses.
 fn check_keys(list: &[u8], count: u16, image: &[u8], base: u32) -> Verdict
     ensures { λ r. ⌜ verdictPaper r ≡ judgedOf (now (image .entry)) base (upTo (offsetIn (now (list .entry)) 4) count) ⌝ }
 {
     let mut i: u16 = 0;
     while i < count {
-        let offset = words::u32_at(list, HEADER + 4 * (i as usize));
-        match key_hash(image, base, offset) {
+        let place = place_of(list, i, base);
+        match key_hash(image, place) {
             HashAnswer::Refused(fault) => {
                 return Verdict::Refused(fault);
             }
@@ -111,11 +119,27 @@ fn check_keys(list: &[u8], count: u16, image: &[u8], base: u32) -> Verdict
     Verdict::Whole
 }
 
-// The hash that an entry gets; 0 where its key has none.
-fn hash_of(image: &[u8], base: u32, offset: u32) -> u32
-    ensures { λ r. ⌜ r ≡ hashOf (now (image .entry)) base offset ⌝ }
+// How many entries the `li` list at a position has, where every one of them names a key whose name has a hash.
+fn judge_lh(list: &[u8], position: usize, image: &[u8], base: u32) -> CountAnswer
+    ensures { λ r. ⌜ countPaper r ≡ lhCount (now (list .entry)) position (now (image .entry)) base ⌝ }
 {
-    match key_hash(image, base, offset) {
+    match count_of(list, position, LI) {
+        CountAnswer::Refused(fault) => CountAnswer::Refused(fault),
+        CountAnswer::Count(count) => {
+            let entries = words::from(list, position);
+            match check_keys(entries, count, image, base) {
+                Verdict::Refused(fault) => CountAnswer::Refused(fault),
+                Verdict::Whole => CountAnswer::Count(count),
+            }
+        }
+    }
+}
+
+// The hash of the name of the key record at a place; 0 where it has none.
+fn hash_at(image: &[u8], place: usize) -> u32
+    ensures { λ r. ⌜ r ≡ orZero (keyHash (now (image .entry)) place) ⌝ }
+{
+    match key_hash(image, place) {
         HashAnswer::Hash(hash) => hash,
         HashAnswer::Refused(_) => 0,
     }
@@ -157,7 +181,8 @@ fn put_lh_entries(list: &[u8], count: u16, image: &[u8], base: u32, out: &mut [u
     while i < count {
         let at = i as usize;
         let offset = words::u32_at(list, HEADER + 4 * at);
-        let hash = hash_of(image, base, offset);
+        let place = place_of(list, i, base);
+        let hash = hash_at(image, place);
         let entry = (offset as u64) + 4294967296 * (hash as u64);
         writing::put_u64(out, HEADER + 8 * at, entry);
         i += 1;
@@ -211,6 +236,55 @@ fn no_room(size: u32) -> ConversionAnswer
     })
 }
 
+// The `lh` cell of an `li` list that is judged.
+fn lay_lh(
+    judged: CountAnswer,
+    list: &[u8],
+    position: usize,
+    image: &[u8],
+    base: u32,
+    out: &mut [u8],
+) -> ConversionAnswer
+    requires { ⌜ countPaper judged ≡ lhCount (now list) position (now image) base ⌝ }
+    ensures { λ r. ⌜ LhAnswered (now (list .entry)) position (now (image .entry)) base (now (out .entry)) r (now (out .exit)) ⌝ }
+{
+    match judged {
+        CountAnswer::Refused(fault) => refuse(fault),
+        CountAnswer::Count(count) => {
+            let size = cell_size(LH_ENTRY, count);
+            if out.len() < size as usize {
+                return no_room(size);
+            }
+            let entries = words::from(list, position);
+            put_header(size, LH, count, out);
+            put_lh_entries(entries, count, image, base, out);
+            put_rest(size, LH_ENTRY, count, out);
+            ConversionAnswer::Written(size)
+        }
+    }
+}
+
+// The `li` cell of an `lh` list that is judged.
+fn lay_li(judged: CountAnswer, list: &[u8], position: usize, out: &mut [u8]) -> ConversionAnswer
+    requires { ⌜ countPaper judged ≡ countOf kinds.LH (now list) position ⌝ }
+    ensures { λ r. ⌜ LiAnswered (now (list .entry)) position (now (out .entry)) r (now (out .exit)) ⌝ }
+{
+    match judged {
+        CountAnswer::Refused(fault) => refuse(fault),
+        CountAnswer::Count(count) => {
+            let size = cell_size(LI_ENTRY, count);
+            if out.len() < size as usize {
+                return no_room(size);
+            }
+            let entries = words::from(list, position);
+            put_header(size, LI, count, out);
+            put_li_entries(entries, count, out);
+            put_rest(size, LI_ENTRY, count, out);
+            ConversionAnswer::Written(size)
+        }
+    }
+}
+
 // The `li` list at a position of `list`, written as an allocated `lh` cell into the first bytes of `out`: each hash is that of the key
 // record which the entry names in `image`, at the entry's offset plus `base`. The answer is the cell's size.
 pub fn write_lh(
@@ -222,43 +296,14 @@ pub fn write_lh(
 ) -> ConversionAnswer
     ensures { λ r. ⌜ LhAnswered (now (list .entry)) position (now (image .entry)) base (now (out .entry)) r (now (out .exit)) ⌝ }
 {
-    match count_of(list, position, LI) {
-        CountAnswer::Refused(fault) => refuse(fault),
-        CountAnswer::Count(count) => {
-            let entries = words::from(list, position);
-            match check_keys(entries, count, image, base) {
-                Verdict::Refused(fault) => refuse(fault),
-                Verdict::Whole => {
-                    let size = cell_size(LH_ENTRY, count);
-                    if out.len() < size as usize {
-                        return no_room(size);
-                    }
-                    put_header(size, LH, count, out);
-                    put_lh_entries(entries, count, image, base, out);
-                    put_rest(size, LH_ENTRY, count, out);
-                    ConversionAnswer::Written(size)
-                }
-            }
-        }
-    }
+    let judged = judge_lh(list, position, image, base);
+    lay_lh(judged, list, position, image, base, out)
 }
 
 // The `lh` list at a position of `list`, written as an allocated `li` cell into the first bytes of `out`. The answer is the cell's size.
 pub fn write_li(list: &[u8], position: usize, out: &mut [u8]) -> ConversionAnswer
     ensures { λ r. ⌜ LiAnswered (now (list .entry)) position (now (out .entry)) r (now (out .exit)) ⌝ }
 {
-    match count_of(list, position, LH) {
-        CountAnswer::Refused(fault) => refuse(fault),
-        CountAnswer::Count(count) => {
-            let entries = words::from(list, position);
-            let size = cell_size(LI_ENTRY, count);
-            if out.len() < size as usize {
-                return no_room(size);
-            }
-            put_header(size, LI, count, out);
-            put_li_entries(entries, count, out);
-            put_rest(size, LI_ENTRY, count, out);
-            ConversionAnswer::Written(size)
-        }
-    }
+    let judged = count_of(list, position, LH);
+    lay_li(judged, list, position, out)
 }

@@ -18,17 +18,8 @@ abbrev μ-loop : tie.MeasureT-loop
 loop-holds : tie.Need-loop-holds Inv-loop μ-loop
 loop-holds c = refl
 
-cast-u32-at : tie.Need-cast-u32-at Inv-loop μ-loop
-cast-u32-at c = search needs
-
-mul-u32-at : tie.Need-mul-u32-at Inv-loop μ-loop
-mul-u32-at c = search needs
-
-add-u32-at : tie.Need-add-u32-at Inv-loop μ-loop
-add-u32-at c = search needs
-
-u32-at-requires : tie.Need-u32-at-requires Inv-loop μ-loop
-u32-at-requires c κs = search needs
+place-of-requires : tie.Need-place-of-requires Inv-loop μ-loop
+place-of-requires c κs = search needs
 
 key-hash-requires : tie.Need-key-hash-requires Inv-loop μ-loop
 key-hash-requires c κs = search needs
@@ -40,7 +31,7 @@ returns : tie.Need-returns Inv-loop μ-loop
 returns c =
     let a = c .before .before .before .before .before .before .before .before .before .args in
     let l = c .before .before .before .before .before .before .loop in
-    sym (judging-refused (a .image .now) (a .base) (offsetIn (a .list .now) 4) (a .count) (l .i) (c .before .before .before .before .before .loop-test .taken) (c .before .before .before .before .u32-at .ensures) (sym (ap hashPaper (c .before .fault .given .1)) ∙ c .before .before .before .key-hash .ensures)) ∙ l .inv
+    sym (judging-refused (a .image .now) (a .base) (offsetIn (a .list .now) 4) (a .count) (l .i) (c .before .before .before .before .before .loop-test .taken) (c .before .before .before .before .place-of .ensures) (sym (ap hashPaper (c .before .fault .given .1)) ∙ c .before .before .before .key-hash .ensures)) ∙ l .inv
 
 enum-told : tie.Need-enum-told Inv-loop μ-loop
 enum-told c = search needs
@@ -55,7 +46,7 @@ loop-again : tie.Need-loop-again Inv-loop μ-loop
 loop-again c =
     let a = c .before .before .before .before .before .before .before .before .args in
     let l = c .before .before .before .before .before .loop in
-    sym (judging-on (a .image .now) (a .base) (offsetIn (a .list .now) 4) (a .count) (l .i) (c .before .before .before .before .loop-test .taken) (c .before .before .before .u32-at .ensures) (sym (ap hashPaper (c .enum-told .given .1)) ∙ c .before .before .key-hash .ensures)) ∙ l .inv
+    sym (judging-on (a .image .now) (a .base) (offsetIn (a .list .now) 4) (a .count) (l .i) (c .before .before .before .before .loop-test .taken) (c .before .before .before .place-of .ensures) (sym (ap hashPaper (c .enum-told .given .1)) ∙ c .before .before .key-hash .ensures)) ∙ l .inv
 
 returns-2 : tie.Need-returns-2 Inv-loop μ-loop
 returns-2 c =
@@ -70,10 +61,7 @@ check-keys-spec =
     Inv-loop
     μ-loop
     loop-holds
-    cast-u32-at
-    mul-u32-at
-    add-u32-at
-    u32-at-requires
+    place-of-requires
     key-hash-requires
     enum-known-fault
     returns

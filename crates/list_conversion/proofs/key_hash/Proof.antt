@@ -5,13 +5,10 @@ use borrow.Author.Needs.{needs}
 use Rattle.list_conversion.proofs.key_hash.Statement.{statement}
 use Rattle.list_conversion.proofs.key_hash.Tie as tie
 
-add-place : tie.Need-add-place
-add-place c = search needs
-
 returns : tie.Need-returns
 returns c =
     let a = c .before .before .args in
-    hash-outside (a .image .now) (a .base) (a .offset) (c .if1 .taken)
+    hash-outside (a .image .now) (a .place) (c .if1 .taken)
 
 read-key-node-requires : tie.Need-read-key-node-requires
 read-key-node-requires c κs = search needs
@@ -31,18 +28,17 @@ name-hash-requires c κs = search needs
 returns-2 : tie.Need-returns-2
 returns-2 c =
     let a = c .before .before .before .before .before .before .args in
-    hash-unread (a .image .now) (a .base) (a .offset) (c .before .before .before .before .if1 .left) (sym (ap keyPaper (c .before .fault .given .1)) ∙ c .before .before .before .read-key-node .ensures)
+    hash-unread (a .image .now) (a .place) (c .before .before .before .before .if1 .left) (sym (ap keyPaper (c .before .fault .given .1)) ∙ c .before .before .before .read-key-node .ensures)
 
 returns-3 : tie.Need-returns-3
 returns-3 c =
     let a = c .before .before .before .before .before .before .before .before .args in
-    hash-read (a .image .now) (a .base) (a .offset) (c .before .before .before .before .before .before .if1 .left) (sym (ap keyPaper (c .before .before .before .key .given .1)) ∙ c .before .before .before .before .before .read-key-node .ensures) (c .before .key-name .ensures .bytes) (c .name-hash .ensures)
+    hash-read (a .image .now) (a .place) (c .before .before .before .before .before .before .if1 .left) (sym (ap keyPaper (c .before .before .before .key .given .1)) ∙ c .before .before .before .before .before .read-key-node .ensures) (c .before .key-name .ensures .bytes) (c .name-hash .ensures)
 
 pub key-hash-spec : {M : Type 1} → statement M
 key-hash-spec =
     tie.close
     (tie.spec
-    add-place
     returns
     read-key-node-requires
     enum-known-fault

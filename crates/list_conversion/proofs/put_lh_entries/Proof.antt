@@ -1,6 +1,6 @@
 use mathlib.Core.Path.{ap, _∙_}
-use Prim.Native.Nat.{_-_}
-use Rattle.list_conversion.specs.Entries.{entry, hashOf, lhEntry}
+use Prim.Native.Nat.{ℕ, _-_}
+use Rattle.list_conversion.specs.Entries.{keyHash, orZero, entry, lhEntry}
 use Rattle.list_conversion.proofs.Rows.{Filling, filling-start, filling-step, filling-done}
 use borrow.Author.Needs.{needs}
 use Rattle.list_conversion.proofs.put_lh_entries.Statement.{statement}
@@ -29,8 +29,11 @@ add-u32-at c = search needs
 u32-at-requires : tie.Need-u32-at-requires Inv-loop μ-loop
 u32-at-requires c κs = search needs
 
-hash-of-requires : tie.Need-hash-of-requires Inv-loop μ-loop
-hash-of-requires c κs = search needs
+place-of-requires : tie.Need-place-of-requires Inv-loop μ-loop
+place-of-requires c κs = search needs
+
+hash-at-requires : tie.Need-hash-at-requires Inv-loop μ-loop
+hash-at-requires c κs = search needs
 
 cast-entry : tie.Need-cast-entry Inv-loop μ-loop
 cast-entry c = search needs
@@ -61,11 +64,11 @@ loop-less c = search needs
 
 loop-again : tie.Need-loop-again Inv-loop μ-loop
 loop-again c =
-    let a = c .before .before .before .before .before .before .before .before .before .before .before .args in
-    let l = c .before .before .before .before .before .before .before .loop in
-    let u = c .before .before .before .before .before .u32-at .ensures in
-    let h = c .before .before .before .before .hash-of .ensures ∙ ap (hashOf (a .image .now) (a .base)) u in
-    filling-step 8 (lhEntry (a .image .now) (a .base) (a .list .now)) (a .count) (a .out .now) (l .out) (l .i) (l .inv) (c .before .before .before .before .before .before .loop-test .taken) (λ j. entry (u j) (h j)) (c .before .before .put-u64 .ensures)
+    let a = c .before .before .before .before .before .before .before .before .before .before .before .before .args in
+    let l = c .before .before .before .before .before .before .before .before .loop in
+    let u = c .before .before .before .before .before .before .u32-at .ensures in
+    let h = c .before .before .before .before .hash-at .ensures ∙ ap (λ (p : ℕ). orZero (keyHash (a .image .now) p)) (c .before .before .before .before .before .place-of .ensures) in
+    filling-step 8 (lhEntry (a .image .now) (a .base) (a .list .now)) (a .count) (a .out .now) (l .out) (l .i) (l .inv) (c .before .before .before .before .before .before .before .loop-test .taken) (λ j. entry (u j) (h j)) (c .before .before .put-u64 .ensures)
 
 same-length : tie.Need-same-length Inv-loop μ-loop
 same-length c = c .before .loop .inv .long
@@ -87,7 +90,8 @@ put-lh-entries-spec =
     mul-u32-at
     add-u32-at
     u32-at-requires
-    hash-of-requires
+    place-of-requires
+    hash-at-requires
     cast-entry
     cast-entry-2
     mul-entry

@@ -107,8 +107,8 @@ fn check_keys(list: &[u8], count: u16, image: &[u8], base: u32) -> Verdict
 {
     let mut i: u16 = 0;
     while i < count {
-        let place = place_of(list, i, base);
-        match key_hash(image, place) {
+        let key = place_of(list, i, base);
+        match key_hash(image, key) {
             HashAnswer::Refused(fault) => {
                 return Verdict::Refused(fault);
             }
@@ -172,6 +172,17 @@ fn put_header(size: u32, kind: u16, count: u16, out: &mut [u8])
     writing::put_u16(out, 6, count);
 }
 
+// Entry i of the `lh` list that an `li` list becomes, as the number that its 8 bytes are: the offset as it stands, with the hash of its
+// key's name behind it.
+fn lh_entry(list: &[u8], i: u16, image: &[u8], base: u32) -> u64
+    ensures { λ r. ⌜ r ≡ lhEntry (now (image .entry)) base (now (list .entry)) i ⌝ }
+{
+    let offset = words::u32_at(list, HEADER + 4 * (i as usize)) as usize;
+    let place = place_of(list, i, base);
+    let hash = hash_at(image, place);
+    offset as u64 + 4294967296 * (hash as u64)
+}
+
 // The entries of an `lh` list behind the header: each offset as it stands in an `li` list, with the hash of its key's name.
 fn put_lh_entries(list: &[u8], count: u16, image: &[u8], base: u32, out: &mut [u8])
     requires { ⌜ 8 + 8 * count ≤ length (now out) ⌝ }
@@ -179,12 +190,8 @@ fn put_lh_entries(list: &[u8], count: u16, image: &[u8], base: u32, out: &mut [u
 {
     let mut i: u16 = 0;
     while i < count {
-        let at = i as usize;
-        let offset = words::u32_at(list, HEADER + 4 * at);
-        let place = place_of(list, i, base);
-        let hash = hash_at(image, place);
-        let entry = (offset as u64) + 4294967296 * (hash as u64);
-        writing::put_u64(out, HEADER + 8 * at, entry);
+        let entry = lh_entry(list, i, image, base);
+        writing::put_u64(out, HEADER + 8 * (i as usize), entry);
         i += 1;
     }
 }

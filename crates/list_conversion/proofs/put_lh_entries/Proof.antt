@@ -1,6 +1,5 @@
-use mathlib.Core.Path.{ap, _∙_}
-use Prim.Native.Nat.{ℕ, _-_}
-use Rattle.list_conversion.specs.Entries.{keyHash, orZero, entry, lhEntry}
+use Prim.Native.Nat.{_-_}
+use Rattle.list_conversion.specs.Entries.{lhEntry}
 use Rattle.list_conversion.proofs.Rows.{Filling, filling-start, filling-step, filling-done}
 use borrow.Author.Needs.{needs}
 use Rattle.list_conversion.proofs.put_lh_entries.Statement.{statement}
@@ -17,35 +16,11 @@ loop-holds c =
     let a = c .before .before .before .args in
     filling-start 8 (lhEntry (a .image .now) (a .base) (a .list .now)) (a .count) (a .out .now) (c .before .before .before .pre)
 
-cast-at : tie.Need-cast-at Inv-loop μ-loop
-cast-at c = search needs
+lh-entry-requires : tie.Need-lh-entry-requires Inv-loop μ-loop
+lh-entry-requires c κs = search needs
 
-mul-u32-at : tie.Need-mul-u32-at Inv-loop μ-loop
-mul-u32-at c = search needs
-
-add-u32-at : tie.Need-add-u32-at Inv-loop μ-loop
-add-u32-at c = search needs
-
-u32-at-requires : tie.Need-u32-at-requires Inv-loop μ-loop
-u32-at-requires c κs = search needs
-
-place-of-requires : tie.Need-place-of-requires Inv-loop μ-loop
-place-of-requires c κs = search needs
-
-hash-at-requires : tie.Need-hash-at-requires Inv-loop μ-loop
-hash-at-requires c κs = search needs
-
-cast-entry : tie.Need-cast-entry Inv-loop μ-loop
-cast-entry c = search needs
-
-cast-entry-2 : tie.Need-cast-entry-2 Inv-loop μ-loop
-cast-entry-2 c = search needs
-
-mul-entry : tie.Need-mul-entry Inv-loop μ-loop
-mul-entry c = search needs
-
-add-entry : tie.Need-add-entry Inv-loop μ-loop
-add-entry c = search needs
+cast-put-u64 : tie.Need-cast-put-u64 Inv-loop μ-loop
+cast-put-u64 c = search needs
 
 mul-put-u64 : tie.Need-mul-put-u64 Inv-loop μ-loop
 mul-put-u64 c = search needs
@@ -64,11 +39,9 @@ loop-less c = search needs
 
 loop-again : tie.Need-loop-again Inv-loop μ-loop
 loop-again c =
-    let a = c .before .before .before .before .before .before .before .before .before .before .before .before .args in
-    let l = c .before .before .before .before .before .before .before .before .loop in
-    let u = c .before .before .before .before .before .before .u32-at .ensures in
-    let h = c .before .before .before .before .hash-at .ensures ∙ ap (λ (p : ℕ). orZero (keyHash (a .image .now) p)) (c .before .before .before .before .before .place-of .ensures) in
-    filling-step 8 (lhEntry (a .image .now) (a .base) (a .list .now)) (a .count) (a .out .now) (l .out) (l .i) (l .inv) (c .before .before .before .before .before .before .before .loop-test .taken) (λ j. entry (u j) (h j)) (c .before .before .put-u64 .ensures)
+    let a = c .before .before .before .before .before .before .before .before .before .before .args in
+    let l = c .before .before .before .before .before .before .loop in
+    filling-step 8 (lhEntry (a .image .now) (a .base) (a .list .now)) (a .count) (a .out .now) (l .out) (l .i) (l .inv) (c .before .before .before .before .before .loop-test .taken) (c .before .before .before .before .lh-entry .ensures) (c .before .before .put-u64 .ensures)
 
 same-length : tie.Need-same-length Inv-loop μ-loop
 same-length c = c .before .loop .inv .long
@@ -86,16 +59,8 @@ put-lh-entries-spec =
     Inv-loop
     μ-loop
     loop-holds
-    cast-at
-    mul-u32-at
-    add-u32-at
-    u32-at-requires
-    place-of-requires
-    hash-at-requires
-    cast-entry
-    cast-entry-2
-    mul-entry
-    add-entry
+    lh-entry-requires
+    cast-put-u64
     mul-put-u64
     add-put-u64
     put-u64-requires

@@ -861,6 +861,80 @@ def value_data(image, base, minor, raw, offset, out):
     return size
 
 
+# ---- document 02, order 10: "From li to lh and back"
+
+def entries_of(lent, position, kind):
+    """The entries of the list at a position, which is to be of one kind: of each the bytes, as stored."""
+    # "Refusals: those of one list"; its position counts from the start of the slice that it is in
+    sign, each, count = one_list(lent, position)
+    # "BAD SIGN for another kind"
+    if sign != kind:
+        raise Refused(BAD_SIGN, position)
+    return [lent[at:at + each] for at in range(position + 8, position + 8 + each * count, each)]
+
+
+def hash_of(image, position):
+    """ "with each hash worked out from the key record that the entry names"; "those of the key record or hash" """
+    # "A negative size means allocated, a positive one free; both read."
+    _, length = record(image, position, 80, b"nk", 76)
+    return name_hash(unsigned(image, position + 6, 2), image[position + 80:position + 80 + length])
+
+
+def as_cell(kind, entries, out):
+    """The entries as an allocated cell of one kind in a lent buffer. Gives the cell's size."""
+    # "Count: 16 bits at 6; entries at 8"
+    content = kind + len(entries).to_bytes(2, "little") + b"".join(entries)
+    # "Both give the smallest multiple of 8 as size": that holds the size word and these
+    size = next(n for n in range(4 + len(content), 4 + len(content) + 8) if n % 8 == 0)
+    # "then 9"; "NO ROOM also returns the places needed"
+    if size > len(out):
+        raise Refused(NO_ROOM, places=size)
+    # "A negative size means allocated"; "and zero the rest of the cell"; "the places after the last one written keep their old contents"
+    out[:size] = (-size).to_bytes(4, "little", signed=True) + content + bytes(size - 4 - len(content))
+    return size
+
+
+def write_lh(lent, position, image, base, out):
+    """ "Write an `li` list as an allocated `lh` cell in a lent buffer" """
+    entries, hashes = [], {}
+    # "entry by entry"
+    for offset in entries_of(lent, position, b"li"):
+        named = unsigned(offset, 0, 4) + base
+        # "2 for an offset plus base above 32 bits"
+        if named >= 4_294_967_296:
+            raise Refused(OUTSIDE, named)
+        # a key that was named before has the same hash again
+        if named not in hashes:
+            hashes[named] = hash_of(image, named).to_bytes(4, "little")
+        # "entries at 8, of 8 bytes (`lf`, `lh`: offset, hint)"
+        entries.append(offset + hashes[named])
+    return as_cell(b"lh", entries, out)
+
+
+def write_li(lent, position, out):
+    """ "and write an `lh` list as `li`" """
+    return as_cell(b"li", [entry[:4] for entry in entries_of(lent, position, b"lh")], out)
+
+
+def there_and_back(image, position, base, li_first, room):
+    """Both steps, each with a buffer of so many bytes: what it is answered, and the buffer after it; the second where the first succeeds."""
+    as_lh = lambda lent, at, out: write_lh(lent, at, image, base, out)
+    kind, first, second = (b"lh", write_li, as_lh) if li_first else (b"li", as_lh, write_li)
+    said, there = in_bytes(room, lambda out: first(image, position, out))
+    if said[0] != "ok":
+        return [(said, there)]
+    # "the second lent the first's cell beside the same image"
+    again, back = in_bytes(room, lambda out: second(there[:said[1]], 0, out))
+    if again[0] == "ok":
+        old, new = entries_of(image, position, kind), entries_of(back[:again[1]], 0, kind)
+        # "from `li` and back gives the same entries; from `lh` and back too"
+        assert [x[:4] for x in new] == [x[:4] for x in old]
+        # "with hashes equal if the old ones were right"
+        right = all(unsigned(x, 4, 4) == hash_of(image, unsigned(x, 0, 4) + base) for x in set(old) if kind == b"lh")
+        assert new == old or not right
+    return [(said, there), (again, back)]
+
+
 # ---- a number into a lent buffer: "All numbers are little-endian."; where it does not fit, nothing changes
 
 def put(out, at, width, number):
@@ -872,7 +946,7 @@ def put(out, at, width, number):
 
 # ---- the stream and the lines (compare/README.md)
 
-IMAGE_MOST, NAME_MOST, ROOM_MOST, BYTES_MOST, DATA_MOST, WIDE_MOST = 524_288, 65_536, 262_144, 32, 65_536, 8_192
+IMAGE_MOST, NAME_MOST, ROOM_MOST, BYTES_MOST, DATA_MOST, WIDE_MOST, CELL_MOST = 524_288, 65_536, 262_144, 32, 65_536, 8_192, 524_288
 FEW = 4  # parts or calls of a row that are written out
 PATCH, LENGTH = 100, 101
 
@@ -891,7 +965,7 @@ def summed(part):
 
 
 pattern = [(i + 1) * 0x9E3779B1 % 2 ** 32 for i in range(ROOM_MOST)]
-bytes_pattern = bytes(x % 256 for x in pattern[:DATA_MOST])
+bytes_pattern = bytes((i + 1) * 0x9E3779B1 % 256 for i in range(CELL_MOST))
 wide_pattern = [(i + 1) * 0x9E3779B1 for i in range(WIDE_MOST)]  # in 64 bits
 
 
@@ -906,6 +980,16 @@ def untouched(out, written, before=pattern):
 def whole_buffer(out):
     """A buffer of bytes: its row, and how many of its bytes are as they were."""
     return summed(out) + [sum(map(operator.eq, out, bytes_pattern))]
+
+
+def in_bytes(room, write):
+    """What is answered by a function that writes into a buffer of so many bytes, and the buffer after it."""
+    out = bytearray(bytes_pattern[:room])
+    try:
+        said = ["ok", write(out)]
+    except Refused as r:
+        said = ["refused", r.number, r.position, r.places]
+    return said, bytes(out)
 
 
 def with_part(image, position, read, parts):
@@ -972,12 +1056,15 @@ def answer_of(tag, a, b, c, d, e, name, image):
         # "data size 8, data offset 12"
         return answer(21, fields[3], fields[4], c, d, e, name, image)
     if tag == 21:
-        out = bytearray(bytes_pattern[:e])
-        try:
-            said = ["ok", value_data(image, c, d, a, b, out)]
-        except Refused as r:
-            said = ["refused", r.number, r.position, r.places]
-        return said + whole_buffer(bytes(out))
+        said, out = in_bytes(e, lambda out: value_data(image, c, d, a, b, out))
+        return said + whole_buffer(out)
+    if tag in (35, 36):
+        lent, position = name if d == 1 else image, a + 2 ** 32 * b
+        said, out = in_bytes(e, lambda out: write_lh(lent, position, image, c, out) if tag == 35 else write_li(lent, position, out))
+        return said + whole_buffer(out)
+    if tag == 37:
+        told = [said + whole_buffer(out) for said, out in there_and_back(image, a + 2 ** 32 * b, c, d == 1, e)]
+        return told[0] + [x for again in told[1:] for x in ["back"] + again]
     if tag == 4:
         out = pattern[:d]
         try:
@@ -1103,7 +1190,7 @@ def cases(read):
         else:
             if (tag in (4, 13) and words[3] > ROOM_MOST or tag in (5, 14, 16, 30, 31, 32) and words[4] > ROOM_MOST
                     or tag == 19 and words[4] > BYTES_MOST or tag in (21, 22) and words[4] > DATA_MOST
-                    or tag == 24 and words[4] > WIDE_MOST):
+                    or tag == 24 and words[4] > WIDE_MOST or tag in (35, 36, 37) and words[4] > CELL_MOST):
                 bad("room")
             if image is None:
                 image = bytes(kept[:length])

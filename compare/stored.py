@@ -1,7 +1,7 @@
 #!/usr/bin/env python3
 """compare/stored.py SEED HIVE..: what the stored cases are, for compare/STORED.md. Exit 1 where a refusal of a function, or a success or
-a refusal by 9 with entries dropped, or a refusal of a call on a table, or a reason of the strict profile's refusals, is not among them, or where
-bins in parts end in another answer than the whole check's."""
+a refusal by 9 with entries dropped, or a refusal of a call on a table, or a reason of the strict profile's refusals, or an answer of the way back
+from a list's other kind, is not among them, or where bins in parts end in another answer than the whole check's."""
 import collections
 import os
 import sys
@@ -14,7 +14,7 @@ NAMES = {1: "checksum", 2: "base block", 3: "`is_big_data_block`", 4: "value lis
          18: "a cell", 19: "a number written", 20: "a record's counts", 21: "a value's data", 22: "a record's value data",
          23: "a step of the reader", 24: "deleted keys", 25: "a step of the bins", 26: "bins in parts", 27: "one part on a record", 28: "totals beside the keys",
          29: "one list, strictly", 30: "subkey walk, strictly", 31: "a record's subkeys, strictly", 32: "a leaf list, strictly",
-         33: "a walk's counts, strictly", 34: "a record's counts, strictly"}
+         33: "a walk's counts, strictly", 34: "a record's counts, strictly", 35: "an `li` list as `lh`", 36: "an `lh` list as `li`", 37: "there and back"}
 # what documents 01 and 02 let each function be refused by
 REFUSALS = {1: [1], 2: [1, 4], 4: [2, 6, 7, 8, 9], 5: [2, 4, 7, 8, 9, 13, 14, 15], 6: [1, 2, 3, 4, 5], 7: [1, 2, 3, 4, 5],
             8: [1, 2, 3, 4, 5, 6, 7, 8, 16], 9: [5], 10: [8, 10, 11], 11: [2, 4, 8], 16: [2, 4, 8, 9],
@@ -22,7 +22,8 @@ REFUSALS = {1: [1], 2: [1, 4], 4: [2, 6, 7, 8, 9], 5: [2, 4, 7, 8, 9, 13, 14, 15
             21: [2, 4, 8, 9, 17], 22: [1, 2, 3, 4, 5, 8, 9, 17], 23: [10, 11], 24: [8, 9, 10, 11], 25: [10, 11],
             26: [8, 10, 11, 18], 27: [8, 10, 11, 18],
             29: [2, 3, 4, 8, 20], 30: [2, 3, 4, 7, 8, 9, 13, 15, 20], 31: [1, 2, 3, 4, 5, 7, 8, 9, 13, 15, 20], 32: [2, 3, 4, 8, 9, 20],
-            33: [2, 3, 4, 7, 8, 13, 15, 20], 34: [1, 2, 3, 4, 5, 7, 8, 13, 15, 20]}
+            33: [2, 3, 4, 7, 8, 13, 15, 20], 34: [1, 2, 3, 4, 5, 7, 8, 13, 15, 20],
+            35: [1, 2, 3, 4, 5, 8, 9], 36: [2, 4, 8, 9], 37: [1, 2, 3, 4, 5, 8, 9]}
 # why the strict profile refuses a list by 20 and by 3; one leaf list is named by no `ri` list
 REASONS = {20: ["kind", "`ri` under `ri`"], 3: ["not negative", "too small", "past the image"]}
 # the calls on a table of totals, and what 02 lets each be refused by: a key record's own refusals come first where it is read
@@ -106,6 +107,20 @@ def reasons(crate):
     return counts
 
 
+def trips(crate):
+    """Of the lists that are written as their other kind and back: how the second step is answered where the first succeeds, by which kind came
+    first; and of those from `lh` that succeed in both, how many come back with other hashes."""
+    counts, other = {b"li": collections.Counter(), b"lh": collections.Counter()}, 0
+    with open(f"crates/{crate}/stdin", "rb") as stdin:
+        for tag, a, b, base, d, room, _, image in reader.cases(stdin.read):
+            if tag == 37:
+                kind, position = b"lh" if d == 1 else b"li", a + 2 ** 32 * b
+                for said, out in reader.there_and_back(image, position, base, d == 1, room)[1:]:
+                    counts[kind]["ok" if said[0] == "ok" else said[1]] += 1
+                    other += said[0] == "ok" and reader.entries_of(out[:said[1]], 0, kind) != reader.entries_of(image, position, kind)
+    return counts, other
+
+
 def dropping(path, tags):
     """Of these functions, how many lines tell of entries dropped: successes, and refusals by 9."""
     counts = {tag: collections.Counter() for tag in tags}
@@ -143,6 +158,9 @@ calls, by_calls = rows_of_calls("replay_parts")
 missing += [(CALLS[k][0], n) for k in CALLS for n in ["ok"] + CALLS[k][1] if not calls[k][n]]
 whys = reasons("replay_parts")
 missing += [(NAMES[t], f"{n}: {why}") for t in reader.STRICT for n in REASONS for why in REASONS[n] if not whys[t][n, why] and (t, why) != (32, "`ri` under `ri`")]
+back, other = trips("replay_parts")
+missing += [(NAMES[37], why) for why, there in (("from `li`", back[b"li"]["ok"]), ("with hashes that were right", back[b"lh"]["ok"] - other), ("with others", other)) if not there]
+missing += [(NAMES[37], f"back, {n}") for n in READ + [9] if not back[b"lh"][n]]
 total = lambda counts: sum(sum(c.values()) for c in counts.values())
 print(f"""# The stored cases
 
@@ -179,7 +197,9 @@ A cell is told in {tells[23]["cell"]} steps of the reader, the end in {tells[23]
 Bins as they arrive: the stored cases of "bins and cells" again, cut in parts, each rule on both sides, random and damaged bins, hives; and one
 part on records of any numbers, whose refusals may be of any number too. Totals beside the keys: rows of calls, each refusal on both sides
 and before each other, full tables, places used again, tables that no call made, random rows, the keys of hives. The strict profile: each rule
-on both sides, alone, at the top and below it, each refusal before each other, random images, hives. A program by itself, since `rt try`, by
+on both sides, alone, at the top and below it, each refusal before each other, random images, hives. Lists written anew, `li` as `lh` and `lh` as
+`li`: each refusal of an entry at the first, in the middle and at the last, two of them in either order, sums that wrap to a key, names of bytes and
+of units, up to 65,535 entries, rooms on both sides, random and damaged images, hives. A program by itself, since `rt try`, by
 which `compare/slips` runs them, takes no more than a megabyte of output from one.
 
 | Function | Cases | Success | Refused by number: cases |
@@ -205,6 +225,9 @@ The {parts[28]["ok"]:,} rows of calls by what each call was answered:
 Of the {total(strict):,} strict cases so many are refused for a reason that is the strict profile's own: {said}. The other {as_ordinary:,} have the ordinary reading's answer, success or refusal: `paper.py` holds each to it.
 Entries are dropped in so many successes, and refusals by 9: {", ".join(dropped[t] for t in dropped if t > 28)}.
 Beside them, once for the minor versions of one image and words, stand cases of the ordinary reading: {beside}.
+
+There and back {back[b"li"]["ok"] + back[b"lh"]["ok"]:,} cases succeed in both steps, {back[b"li"]["ok"]:,} from `li` and {back[b"lh"]["ok"]:,} from `lh`: `paper.py` holds each to the same entries. Of those from `lh` {back[b"lh"]["ok"] - other:,} come back with the same hashes; the other {other:,} had wrong ones.
+In {sum(n for k, n in back[b"lh"].items() if k != "ok"):,} cases from `lh` the way back is refused, by number: {", ".join(f"{n}: {back[b'lh'][n]}" for n in sorted(k for k in back[b"lh"] if k != "ok"))}.
 
 ## crates/replay_rust: {total(rust):,} cases, {size("replay_rust") // 1000} KB, the Rust's own answers
 

@@ -104,6 +104,9 @@ fn function(tag: u32) -> &'static str {
         32 => "strict leaf list",
         33 => "strict counts",
         34 => "the same by record",
+        35 => "li as lh",
+        36 => "lh as li",
+        37 => "there and back",
         _ => "?",
     }
 }

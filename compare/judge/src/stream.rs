@@ -7,6 +7,7 @@ pub const NAME_MOST: usize = 65_536;
 pub const ROOM_MOST: usize = 262_144;
 pub const DATA_MOST: usize = 65_536;
 pub const WIDE_MOST: usize = 8_192;
+pub const CELL_MOST: usize = 524_288;
 const PATCH: u8 = 100;
 const LENGTH: u8 = 101;
 
@@ -77,7 +78,8 @@ impl<R: Read> Cases<R> {
                 LENGTH => self.length(a as usize),
                 tag => {
                     if matches!(tag, 4 | 13) && d as usize > ROOM_MOST || matches!(tag, 5 | 14 | 16 | 30..=32) && e as usize > ROOM_MOST
-                        || matches!(tag, 21 | 22) && e as usize > DATA_MOST || tag == 24 && e as usize > WIDE_MOST { bad("room"); }
+                        || matches!(tag, 21 | 22) && e as usize > DATA_MOST || tag == 24 && e as usize > WIDE_MOST
+                        || matches!(tag, 35..=37) && e as usize > CELL_MOST { bad("room"); }
                     return Some(Case { tag, a, b, c, d, e, name: if tag == 8 { self.name.clone() } else { vec![] } });
                 }
             }

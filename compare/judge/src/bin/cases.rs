@@ -3,11 +3,12 @@
 //!   cases hives SEED FILE.. > CASES     hives: all their records and lists, cuts and damaged copies
 //!   cases stored SEED FILE.. > CASES    a share of all of these, to be kept in the repository
 //!   cases stored-parts SEED FILE.. > CASES   the same of bins as they arrive, with each stored case of the whole check cut in parts, of
-//!                                       totals beside the keys, and of the strict profile
+//!                                       totals beside the keys, of the strict profile, and of lists written anew
 //!   cases stored-rust SEED MARKS FILE.. > CASES   the same of what the Rust has; MARKS: a file with a 1 for each case to keep, 0
 //!                                       for each other, or `-` to keep all
 //!   cases SEED ROUNDS > CASES           random images rich in plausible lists and records, and damaged ones
 //!   cases strict SEED ROUNDS > CASES    of the fixed and of the random ones those about the strict profile alone
+//!   cases conversion SEED ROUNDS > CASES   the same of those about lists written anew
 //! Same words, same bytes. Uses nothing of the Rust that is tested, and no reading of the paper.
 use std::io::{BufWriter, Write};
 
@@ -41,7 +42,7 @@ impl Rng {
 
 const IMAGE_MOST: usize = 524_288;
 /// one more than the greatest tag of a case
-const TAGS: usize = 35;
+const TAGS: usize = 38;
 const ENOUGH: u32 = 1024;
 /// the greatest room for a value's data, and the bytes of it in one cell or one segment
 const DATA_MOST: u32 = 65_536;
@@ -49,6 +50,8 @@ const SEGMENT: u32 = 16_344;
 const BUDGET: u32 = 65536;
 /// the greatest room for deleted keys, more than any image has
 const WIDE_MOST: u32 = 8192;
+/// the greatest room for a cell: that of an `lh` list of 65,535 entries
+const CELL_MOST: u32 = 524_288;
 
 /// Writes a stream. What a case needs of words, name and image is held against what the stream's reader has by then, and only
 /// the difference is written: of the image, patches and a length where these are shorter than the whole.
@@ -256,6 +259,13 @@ impl<W: Write> Out<W> {
         self.once(20, &[at, 0, base, budget]);
         for &minor in minors { self.case(31, &[at, minor, base, budget, room], None); self.once(34, &[at, minor, base, budget]); }
     }
+    /// The list at a position of the image written as `lh`, as `li`, and there and back, first as `li` or first as `lh`.
+    fn as_lh(&mut self, at: u64, base: u32, room: u32) { self.case(35, &[at as u32, (at >> 32) as u32, base, 0, room.min(CELL_MOST)], None); }
+    fn as_li(&mut self, at: u64, room: u32) { let c = self.words[2]; self.case(36, &[at as u32, (at >> 32) as u32, c, 0, room.min(CELL_MOST)], None); }
+    fn back(&mut self, at: u64, base: u32, li_first: bool, room: u32) { self.case(37, &[at as u32, (at >> 32) as u32, base, li_first as u32, room.min(CELL_MOST)], None); }
+    /// The same of a list that is in the name.
+    fn lent_as_lh(&mut self, lent: &[u8], at: u64, base: u32, room: u32) { self.named(35, &[at as u32, (at >> 32) as u32, base, 1, room], lent); }
+    fn lent_as_li(&mut self, lent: &[u8], at: u64, room: u32) { let c = self.words[2]; self.named(36, &[at as u32, (at >> 32) as u32, c, 1, room], lent); }
     fn lookup(&mut self, count: u32, offset: u32, base: u32, name: &[u8]) { self.named(8, &[count, offset, base], name); }
     fn named(&mut self, tag: u8, words: &[u32], name: &[u8]) {
         if !self.takes(tag) { return; }
@@ -1007,7 +1017,7 @@ fn stored(o: &mut Out<impl Write>, seed: u64, files: &[String], rust: bool) {
 }
 
 /// The samples about bins as they arrive, which are stored by themselves: among them each case of the whole check that is stored. Behind
-/// them those about totals beside the keys, and then those about the strict profile.
+/// them those about totals beside the keys, those about the strict profile, and then those about lists written anew.
 fn stored_parts(o: &mut Out<impl Write>, seed: u64, files: &[String]) {
     let mut others = Out::new(std::io::sink(), [1; TAGS], 0);
     others.checked = Some(vec![]);
@@ -1024,6 +1034,9 @@ fn stored_parts(o: &mut Out<impl Write>, seed: u64, files: &[String]) {
     strict(o, false);
     any_strict(o, &mut Rng(seed), 3, SMALL.0);
     hive_strict(o, &mut Rng(seed), files, 1, false);
+    conversion(o, false);
+    any_conversion(o, &mut Rng(seed), 10, SMALL.0);
+    hive_conversion(o, &mut Rng(seed), files, 6, false);
 }
 
 // ---- hashes of names with units above 255: the ends of the ranges that have an upper case, words, and `random` others
@@ -2469,6 +2482,482 @@ fn hive_strict(o: &mut Out<impl Write>, r: &mut Rng, files: &[String], copies: u
     }
 }
 
+// ---- an `li` list written as `lh`, and back
+
+/// The hash that a right hint has, for a key of these flags and this name.
+fn hash(flags: u16, name: &[u8]) -> u32 {
+    let wide: Vec<u16> = if flags & 0x20 != 0 { name.iter().map(|&x| x as u16).collect() } else { name.chunks_exact(2).map(|x| get16(x, 0)).collect() };
+    wide.iter().fold(0u32, |h, &x| h.wrapping_mul(37).wrapping_add(match x { 97..=122 | 224..=246 | 248..=254 | 1072..=1103 => x - 32, 1104..=1119 => x - 80, 255 => 376, _ => x } as u32))
+}
+
+/// The size of the cell for a list of so many entries of a kind.
+fn cell_for(kind: &[u8], count: usize) -> u32 { (8 + entry_of(kind) * count).next_multiple_of(8) as u32 }
+
+/// A key's flags, name, and what its cell has behind the name; whether the cell is free.
+type Key = (u16, Vec<u8>, usize, bool);
+
+/// Keys behind the image, one behind the other; what else they have is as `fill`. Gives their positions.
+fn keys_behind(m: &mut Vec<u8>, fill: u8, keys: &[Key]) -> Vec<u32> {
+    keys.iter().map(|(flags, name, slack, free)| {
+        let (p, size) = (m.len(), 80 + name.len() + slack);
+        m.resize(p + size, fill);
+        key_head(m, p, if *free { size as i32 } else { -(size as i32) }, b"nk", name.len());
+        put16(m, p + 6, *flags);
+        m[p + 80..p + 80 + name.len()].copy_from_slice(name);
+        p as u32
+    }).collect()
+}
+
+/// Offsets with a hint behind each.
+fn hinted(offsets: &[u32], hints: &[u32]) -> Vec<u32> { offsets.iter().zip(hints).flat_map(|(&x, &h)| [x, h]).collect() }
+
+/// A list of some offsets behind the image; where its kind has hints, these. Gives its position.
+fn list_behind(m: &mut Vec<u8>, kind: &[u8; 2], offsets: &[u32], hints: &[u32]) -> u64 {
+    let p = m.len();
+    let words = if entry_of(kind) == 8 { hinted(offsets, hints) } else { offsets.to_vec() };
+    m.resize(p + 8 + 4 * words.len(), 0);
+    list(m, p, kind, &words, offsets.len() as u16);
+    p as u64
+}
+
+/// Three keys of three kinds: a byte, bytes in a free cell with a byte behind them, and Cyrillic units.
+fn three_keys() -> [Key; 3] { [(0x20, b"A".to_vec(), 0, false), (0x20, b"ab".to_vec(), 1, true), (0, units(&[1076, 1105]), 4, false)] }
+
+/// An `li` list written as `lh` and an `lh` list as `li`: each rule on both sides, alone, and what comes first where several meet. `more`: what is
+/// too much of the same to be stored.
+fn conversion(o: &mut Out<impl Write>, more: bool) {
+    conversion_counts(o, more);
+    conversion_names(o, more);
+    conversion_faults(o, more);
+    conversion_kinds(o, more);
+    conversion_places(o, more);
+    conversion_bases(o, more);
+    conversion_words(o);
+    conversion_many(o, more);
+}
+
+/// Lists of few entries, with right hints and wrong ones, and buffers around the cell's size.
+fn conversion_counts(o: &mut Out<impl Write>, more: bool) {
+    let base = 24;
+    let mut m = vec![0x5a; base as usize];
+    let keys = three_keys();
+    let at = keys_behind(&mut m, 0x11, &keys);
+    for count in if more { vec![0, 1, 2, 3, 4, 5, 6, 7, 8, 17] } else { vec![0, 1, 2, 3] } {
+        // in any order, so that two entries name one key where there are more than three
+        let offsets: Vec<u32> = (0..count).map(|i| at[(2 * i + 1) % 3] - base).collect();
+        let right: Vec<u32> = (0..count).map(|i| { let k = &keys[(2 * i + 1) % 3]; hash(k.0, &k.1) }).collect();
+        let (lh, li) = (cell_for(b"lh", count), cell_for(b"li", count));
+        let mut one = m.clone();
+        let p = list_behind(&mut one, b"li", &offsets, &[]);
+        o.image(&one);
+        for room in [lh, lh - 1, lh + 1, 2 * lh + 7, 0, 7, li, li - 1] { o.as_lh(p, base, room); }
+        for room in [lh, lh - 1, lh + 9] { o.back(p, base, false, room); }
+        // one hint wrong, the first or the last, and all of them
+        for wrong in 0..4 {
+            let hints: Vec<u32> = right.iter().enumerate().map(|(i, &h)| if wrong == 3 || wrong == 1 && i == 0 || wrong == 2 && i + 1 == count { !h } else { h }).collect();
+            if wrong > 0 && count == 0 || wrong == 2 && count == 1 { continue; }
+            let mut one = m.clone();
+            let p = list_behind(&mut one, b"lh", &offsets, &hints);
+            o.image(&one);
+            let rooms = [lh, lh - 1, lh + 3, li, li - 1];
+            for room in if more || wrong == 0 { &rooms[..] } else { &rooms[..1] } { o.back(p, base, true, *room); }
+            if wrong == 0 || more { for room in [li, li - 1, li + 1, li + 20, 0, 8 + 4 * count as u32, 7] { o.as_li(p, room); } }
+        }
+    }
+    // keys that two entries name, all of them, and each other
+    for order in [&[0, 0][..], &[0, 0, 0], &[0, 1, 0], &[1, 1, 0], &[2, 2, 2, 2], &[2, 1, 0, 0, 1, 2]] {
+        let offsets: Vec<u32> = order.iter().map(|&i| at[i] - base).collect();
+        let mut one = m.clone();
+        let p = list_behind(&mut one, b"li", &offsets, &[]);
+        let q = list_behind(&mut one, b"lh", &offsets, &vec![65; order.len()]);
+        o.image(&one);
+        o.as_lh(p, base, 60);
+        o.as_li(q, 60);
+        o.back(p, base, false, 60);
+        o.back(q, base, true, 60);
+    }
+    // document 01's example, whose hints are right
+    o.image(&example());
+    for base in [4096, 4095] { o.as_li(4216, 40); o.back(4216, base, true, 40); o.as_lh(4216, base, 40); }
+}
+
+/// Names: of bytes and of units, odd and even, none, Cyrillic; in cells that are free, and with bytes behind the name.
+fn conversion_names(o: &mut Out<impl Write>, more: bool) {
+    let mut names: Vec<Vec<u8>> = [&b""[..], b"A", b"b", b"ab", b"abc", b"Terminal0001", b"\xe4\xff\xf7\xfe\xdf", b"\0", b"z\0\0", b"a\x04"].iter().map(|x| x.to_vec()).collect();
+    for x in [255, 247, 1071, 1072, 1103, 1104, 1119, 1120, 376, 0xffff] { names.push(units(&[97, x, 0x7a])); if more { names.push(units(&[x])); } }
+    for word in WORDS.iter().take(if more { WORDS.len() } else { 6 }) { names.push(units(&word.encode_utf16().collect::<Vec<u16>>())); }
+    // half a unit behind units
+    for word in ["депо", "ab"] { let mut name = units(&word.encode_utf16().collect::<Vec<u16>>()); name.push(4); names.push(name); }
+    for (i, name) in names.iter().enumerate() {
+        let cells = [(0, false), (0, true), (5, false), (2, true)];
+        for flags in [0x20, 0, 0xffff, 0xffdf, 0x1020, 0x40] {
+            if !more && !([0x20, 0].contains(&flags) || i % 8 == 1) { continue; }
+            for &(slack, free) in if more { &cells[..] } else { &cells[i % 4..i % 4 + 1] } {
+                let mut m = vec![];
+                let at = keys_behind(&mut m, 0, &[(flags, name.clone(), slack, free)]);
+                let q = list_behind(&mut m, b"lh", &at, &[hash(flags, name)]);
+                o.image(&m);
+                o.back(q, 0, true, 16);
+                // the same entry twice, in the name
+                let mut lent = vec![];
+                list_behind(&mut lent, b"li", &[at[0], at[0]], &[]);
+                if more || i % 3 == 0 { o.lent_as_lh(&lent, 0, 0, 24); }
+            }
+        }
+    }
+    // a name as long as a name can be
+    if more {
+        let mut m = vec![];
+        let at = keys_behind(&mut m, 0, &[(0x20, vec![0x7a; 65535], 0, false), (0, vec![0x7a; 65534], 0, true), (0, vec![0x7a; 65535], 0, false)]);
+        for n in 1..=3 { let mut one = m.clone(); let p = list_behind(&mut one, b"li", &at[..n], &[]); o.image(&one); o.as_lh(p, 0, 32); }
+    }
+}
+
+/// Entries that name no key that can be hashed: at the first place, in the middle, at the last; two of them, in either order.
+fn conversion_faults(o: &mut Out<impl Write>, more: bool) {
+    let base = 96u32;
+    // a key before the base, which no sum names: one that wraps would
+    let mut m = vec![];
+    keys_behind(&mut m, 0, &[(0x20, b"before".to_vec(), 0, false)]);
+    m.resize(base as usize, 0);
+    let good = keys_behind(&mut m, 0, &three_keys());
+    // sizes, letters, names; what is behind the image, before it ends and past 2^32
+    let mut faults: Vec<u32> = vec![];
+    for (word, letters, name) in [(-79i32, b"nk", 0usize), (79, b"nk", 0), (0, b"nk", 0), (-5000, b"nk", 0), (5000, b"nk", 0), (i32::MIN, b"nk", 0), (-80, b"vk", 0), (88, b"nl", 0), (-80, b"nk", 1), (87, b"nk", 8), (-83, b"nk", 3), (81, b"nk", 1)] {
+        faults.push(m.len() as u32 - base);
+        let p = m.len();
+        m.resize(p + 88, 0);
+        key_head(&mut m, p, word, letters, name);
+    }
+    // a size that is just too great: the last key's, which ends where the lists begin, is set when they are there
+    let last = keys_behind(&mut m, 0, &[(0x20, b"Z".to_vec(), 0, false)])[0];
+    faults.push(last - base);
+    let (p, q) = (m.len(), m.len() + 20);
+    let n = q + 32;
+    m.resize(n, 0);
+    let left = (n - last as usize) as i32;
+    put32(&mut m, last as usize, (-left - 1) as u32);
+    for at in [n, n - 1, n - 79, n - 80, n + 1, n + 99, p] { faults.push(at as u32 - base); }
+    faults.extend([u32::MAX - base, u32::MAX - base + 1, u32::MAX - base + 2, u32::MAX]);
+    let lay = |o: &mut Out<_>, m: &[u8], offsets: &[u32; 3]| {
+        let mut one = m.to_vec();
+        list(&mut one, p, b"li", offsets, 3);
+        list(&mut one, q, b"lh", &hinted(offsets, &[65, 2471, 7]), 3);
+        o.image(&one);
+    };
+    let good = [good[0] - base, good[1] - base, good[2] - base];
+    for (i, &fault) in faults.iter().enumerate() {
+        for place in 0..3 {
+            let mut offsets = good;
+            offsets[place] = fault;
+            lay(o, &m, &offsets);
+            o.as_lh(p as u64, base, 32);
+            if more || place == 2 || i % 4 == place { o.back(q as u64, base, true, 32); }
+            // 9 comes after all others
+            if more || place == 2 { o.as_lh(p as u64, base, 31); o.back(q as u64, base, true, 31); }
+            if more || i % 3 == place { o.back(p as u64, base, false, 32); }
+        }
+        for (j, &other) in faults.iter().enumerate() {
+            if i == j || !more && ![3, 7, 13].contains(&i.abs_diff(j)) { continue; }
+            let orders = [[fault, good[1], other], [good[0], fault, other], [fault, other, good[2]]];
+            for offsets in if more { &orders[..] } else { &orders[(i + j) % 3..(i + j) % 3 + 1] } { lay(o, &m, offsets); o.as_lh(p as u64, base, 32); if more { o.back(q as u64, base, true, 32); } }
+        }
+    }
+    // none of them wrong, with room and without
+    lay(o, &m, &good);
+    for room in [32, 31, 0] { o.as_lh(p as u64, base, room); o.back(q as u64, base, true, room); o.back(p as u64, base, false, room); }
+    // the key at the image's end, whole and cut; the list in the name
+    let mut m = vec![0; 7];
+    let at = keys_behind(&mut m, 0x33, &[(0x20, b"end".to_vec(), 2, false)])[0];
+    let mut lent = vec![];
+    list_behind(&mut lent, b"li", &[at], &[]);
+    o.image(&m);
+    for cut in [m.len(), m.len() - 1, 7 + 80, 7 + 79, 8, 7, 6, 0] { o.length(cut); o.lent_as_lh(&lent, 0, 0, 16); o.lent_as_lh(&lent, 0, 0, 15); }
+    // an image that has a byte more than the key's magnitude, and as many
+    for word in [-86i32, 86, -85, 85, -84, -83, -82] { o.image(&m); o.length(m.len()); o.patch(7, &signed(word)); o.lent_as_lh(&lent, 0, 0, 16); }
+}
+
+/// Lists of every kind given to either, also such as are cut, name no key, or find no room: the kind comes behind what one list is refused by and
+/// before all else.
+fn conversion_kinds(o: &mut Out<impl Write>, more: bool) {
+    let base = 3;
+    let mut m = vec![0; 3];
+    let at = keys_behind(&mut m, 0, &three_keys());
+    let p = m.len();
+    for kind in [b"li", b"lh", b"lf", b"ri", b"lx", b"Li", b"il", b"hl", b"nk", b"\0\0", b"lI", b"l\xe9"] {
+        for (count, entry, rooms) in [(2u16, at[0] - base, &[24u32, 15][..]), (1, u32::MAX, &[16, 0]), (0, 0, &[8, 7]), (5, at[1] - base, &[48])] {
+            // letters that stand for no kind, once
+            let few = !more && ![b"li", b"lh", b"lf", b"ri", b"lx"].contains(&kind);
+            if few && count != 2 { continue; }
+            let mut one = m.clone();
+            one.resize(p + 24, 0);
+            // five entries pass the image
+            list(&mut one, p, kind, &[entry, at[2] - base, entry, 7], count);
+            o.image(&one);
+            for &room in if few { &rooms[..1] } else { rooms } {
+                o.as_lh(p as u64, base, room);
+                o.as_li(p as u64, room);
+                if !few && (more || room == rooms[0]) { for li_first in [false, true] { o.back(p as u64, base, li_first, room); } }
+            }
+        }
+    }
+}
+
+/// Where a list is: positions and lengths on both sides of what it needs, in the image and in the name, beside an image that is another one.
+fn conversion_places(o: &mut Out<impl Write>, more: bool) {
+    const HIGH: u64 = 1 << 32;
+    let mut m = vec![];
+    let at = keys_behind(&mut m, 0, &three_keys());
+    let offsets = [at[0], at[2]];
+    let p = m.len() + 5;
+    for kind in [b"li", b"lh", b"lf"] {
+        let mut one = m.clone();
+        one.resize(p, 0x5a);
+        list_behind(&mut one, kind, &offsets, &[1, 2]);
+        let end = one.len();
+        // the same list in a name, at the position 5
+        let lent = one[p - 5..].to_vec();
+        one.resize(end + 1, 0x5a);
+        o.image(&one);
+        let ask = |o: &mut Out<_>, lent: Option<&[u8]>, at: u64, room: u32| match lent {
+            Some(lent) => { if more || kind != b"lh" { o.lent_as_lh(lent, at, 0, room); } if more || kind == b"lh" { o.lent_as_li(lent, at, room); } }
+            None => {
+                if more || kind != b"lh" { o.as_lh(at, 0, room); }
+                if more || kind == b"lh" { o.as_li(at, room); }
+                if more || kind != b"lf" { o.back(at, 0, kind == b"lh", room); }
+            }
+        };
+        for n in [p - 1, p, p + 1, p + 5, p + 7, p + 8, end - 1, end, end + 1] { o.length(n); ask(o, None, p as u64, 24); }
+        o.length(end);
+        for at in [p - 1, p + 1, p - 5, end - 8, end - 7, end, end + 1] { ask(o, None, at as u64, 24); }
+        for at in [HIGH - 1, HIGH, HIGH + p as u64, HIGH - 1 + end as u64, u64::MAX - 7, u64::MAX] { ask(o, None, at, 24); }
+        for n in [0, 4, 5, 6, 12, 13, lent.len() - 1, lent.len()] { ask(o, Some(&lent[..n]), 5, 24); if more { ask(o, Some(&lent[..n]), 5, 15); } }
+        let n = lent.len() as u64;
+        for at in [0, 4, 6, n - 8, n - 7, n, n + 1, p as u64, HIGH - 1, HIGH + 5, u64::MAX] { ask(o, Some(&lent), at, 24); }
+        // keys that the image has no longer, and an image of nothing; a list of none needs none
+        let mut none = vec![0x5a; 5];
+        list_behind(&mut none, kind, &[], &[]);
+        for n in [at[2] as usize + 80, at[2] as usize, 80, 0] { o.length(n); ask(o, Some(&lent), 5, 24); ask(o, Some(&none), 5, 24); }
+        // the image has such a list where the name has another, and the other way round
+        o.image(&one);
+        let other: Vec<u8> = { let mut x = vec![0; p]; list_behind(&mut x, kind, &[at[1]], &[3]); x };
+        ask(o, Some(&other), p as u64, 24);
+        for d in [0, 2, 257, 1 << 16, 1 << 31, u32::MAX, 1] { for (tag, its) in [(35, kind == b"li"), (36, kind == b"lh"), (37, kind != b"lf")] { if more || its { o.named(tag, &[p as u32, 0, 0, d, 24], &other); } } }
+    }
+}
+
+/// Bases, and sums on both sides of 2^32: such as would be a good key's position if they had 32 bits.
+fn conversion_bases(o: &mut Out<impl Write>, more: bool) {
+    let mut m = vec![];
+    let keys = keys_behind(&mut m, 0, &[(0x20, b"first".to_vec(), 3, false), (0, units(&[1103, 97]), 4, false)]);
+    for base in [0u32, 1, 87, 88, 89, 1 << 31, u32::MAX - 88, u32::MAX - 87, u32::MAX - 1, u32::MAX] {
+        if !more && [87, u32::MAX - 88, u32::MAX - 1].contains(&base) { continue; }
+        let (first, second) = (keys[0].wrapping_sub(base), keys[1].wrapping_sub(base));
+        let (top, past) = (u32::MAX - base, 0u32.wrapping_sub(base));
+        for offsets in [vec![first], vec![second], vec![top], vec![past.wrapping_add(1)], vec![u32::MAX], vec![0], vec![second, first], vec![second, top, past], vec![second, past, top], vec![first, second, second]] {
+            if !more && offsets.len() == 1 && [1, 89].contains(&base) && ![first, top].contains(&offsets[0]) { continue; }
+            let mut one = m.clone();
+            let p = list_behind(&mut one, b"li", &offsets, &[]);
+            let q = list_behind(&mut one, b"lh", &offsets, &[5, 6, 7]);
+            o.image(&one);
+            o.as_lh(p, base, 32);
+            if more || offsets.len() > 1 { o.back(q, base, true, 32); }
+            if more || offsets.len() == 2 { o.back(p, base, false, 32); o.as_li(q, 20); }
+        }
+    }
+}
+
+/// Size words of the list, which are not used.
+fn conversion_words(o: &mut Out<impl Write>) {
+    let mut m = vec![];
+    let keys = keys_behind(&mut m, 0, &three_keys());
+    let p = list_behind(&mut m, b"li", &keys, &[]);
+    let q = list_behind(&mut m, b"lh", &keys, &[65, 0, u32::MAX]);
+    o.image(&m);
+    for word in [0, 1, -1, 8, -8, 20, -20, 32, -32, i32::MIN, i32::MAX, 0x5a5a5a5a] {
+        o.patch(p as usize, &signed(word));
+        o.patch(q as usize, &signed(word));
+        o.as_lh(p, 0, 40);
+        o.as_li(q, 40);
+        o.back(p, 0, false, 40);
+        o.back(q, 0, true, 40);
+    }
+}
+
+/// A thousand entries, and as many as a list can have. Nearly all of them are 0 and name the key at the base.
+fn conversion_many(o: &mut Out<impl Write>, more: bool) {
+    for count in if more { vec![1000usize, 1001, 32767, 65534, 65535] } else { vec![1000, 65535] } {
+        let (lh, li) = (cell_for(b"lh", count), cell_for(b"li", count));
+        // an `li` list at 0, two keys behind it: the first entry, one in the middle and the last one name the second
+        let base = li;
+        let mut m = vec![0; 8 + 4 * count];
+        m.resize(base as usize, 0);
+        let keys = keys_behind(&mut m, 0, &[(0x20, b"zero".to_vec(), 4, false), (0, units(&[1078, 1079]), 4, true)]);
+        list(&mut m, 0, b"li", &[keys[1] - base], count as u16);
+        for i in [count / 2, count - 1] { put32(&mut m, 8 + 4 * i, keys[1] - base); }
+        o.image(&m);
+        for room in [lh, lh - 1] { o.as_lh(0, base, room); }
+        o.back(0, base, false, lh);
+        if more { o.back(0, base, false, lh - 1); o.as_lh(0, base, CELL_MOST); o.as_lh(0, base, 0); }
+        // the last one wraps, the one in the middle is past the image, the last one's name is odd
+        for (at, x) in [(8 + 4 * (count - 1), 0u32.wrapping_sub(base)), (8 + 4 * (count / 2), 1 << 20)] { o.patch(at, &x.to_le_bytes()); o.as_lh(0, base, lh); }
+        o.image(&m);
+        o.patch(keys[1] as usize + 76, &[3]);
+        o.patch(8, &[0; 4]);
+        o.as_lh(0, base, lh - 1);
+        // cut before its last entry's last byte
+        o.length(8 + 4 * count - 1);
+        o.as_lh(0, base, lh);
+        // an `lh` list, which may fill the image, with the keys in it: of their words each that an entry has as its offset is 0, or 88 and names
+        // the second one
+        let mut m = vec![0; lh as usize];
+        let base = 8 + 8 * (count as u32 / 3);
+        let mut keys = vec![];
+        keys_behind(&mut keys, 0, &[(0x20, b"\0\0\0\0zero".to_vec(), 0, true), (0, units(&[0, 0, 1078, 1079]), 0, true)]);
+        m[base as usize..base as usize + keys.len()].copy_from_slice(&keys);
+        list(&mut m, 0, b"lh", &[88, 1], count as u16);
+        put32(&mut m, 8 * count, 88);
+        o.image(&m);
+        for room in [li, li - 1] { o.as_li(0, room); }
+        for room in [lh, lh - 1] { o.back(0, base, true, room); }
+        if more { o.as_li(0, CELL_MOST); o.back(0, base, true, li - 1); }
+        o.patch(8 * count, &(u32::MAX - base + 1).to_le_bytes());
+        o.back(0, base, true, lh);
+        o.length(lh as usize - 1);
+        o.as_li(0, li);
+    }
+}
+
+/// Random keys and lists of them, in images whose keys have about so many bytes: most of them such as can be written, then with faults, then damaged.
+fn any_conversion(o: &mut Out<impl Write>, r: &mut Rng, random: u64, most: usize) {
+    for _ in 0..random {
+        let base = r.pick(&[0u32, 0, 4, 16, 31, 32]);
+        let n = base as usize + r.range(0, 9);
+        let mut m = r.bytes(n);
+        let mut keys: Vec<Key> = vec![];
+        for _ in 0..r.range(1, (most / 96).max(1)) {
+            let wide = r.chance(2);
+            let name: Vec<u8> = if wide {
+                let n = r.range(0, 9);
+                let name: Vec<u16> = (0..n).map(|_| match r.below(6) { 0 => r.pick(&BYTES), 1 => r.pick(&ENDS), 2 => r.next() as u16, _ => r.range(1020, 1124) as u16 }).collect();
+                units(&name)
+            } else { let n = r.range(0, 14); (0..n).map(|_| if r.chance(3) { r.next() as u8 } else { r.pick(b"TERMINALterminal0019_") }).collect() };
+            // now and then bytes as units, and units as bytes
+            let flags = if r.chance(12) { r.next() as u16 } else if wide { r.pick(&[0, 0, 0, 0xffdf, 0x4]) } else { r.pick(&[0x20, 0x20, 0x20, 0x2c, 0xffff]) };
+            keys.push((flags, name, r.range(0, 9), r.chance(4)));
+        }
+        let fill = r.next() as u8;
+        let at = keys_behind(&mut m, fill, &keys);
+        let end = m.len() as u32;
+        let faulty = r.pick(&[0u64, 0, 9, 30]);
+        let mut lists: Vec<(u64, bool, usize)> = vec![];
+        for _ in 0..r.range(1, 4) {
+            let count = if r.chance(9) { r.range(0, 60) } else { r.range(0, 6) };
+            let named: Vec<usize> = (0..count).map(|_| r.range(0, keys.len() - 1)).collect();
+            let offsets: Vec<u32> = named.iter().map(|&i| if faulty > 0 && r.chance(faulty) {
+                match r.below(5) { 0 => r.word(), 1 => (u32::MAX - base - 1).wrapping_add(r.below(4) as u32), 2 => at[i].wrapping_sub(base).wrapping_add(r.below(5) as u32).wrapping_sub(2), 3 => end - base + r.below(40) as u32, _ => 0u32.wrapping_sub(base).wrapping_add(at[i]) }
+            } else { at[i] - base }).collect();
+            let all_right = r.chance(2);
+            let hints: Vec<u32> = named.iter().map(|&i| if all_right || !r.chance(3) { hash(keys[i].0, &keys[i].1) } else { r.word() }).collect();
+            let n = m.len() + r.range(0, 5);
+            m.resize(n, fill);
+            let kind = r.pick(&[b"li", b"li", b"li", b"lh", b"lh", b"lh", b"lf", b"ri"]);
+            let p = list_behind(&mut m, kind, &offsets, &hints);
+            if r.chance(3) { let word = r.word(); put32(&mut m, p as usize, word); }
+            lists.push((p, kind == b"lh" || kind == b"lf", count));
+        }
+        if r.chance(8) { let n = m.len() - r.range(1, 20); m.truncate(n); }
+        o.image(&m);
+        let ask = |o: &mut Out<_>, r: &mut Rng, (p, lh, count): (u64, bool, usize), few: bool| {
+            let (wide, narrow) = (cell_for(b"lh", count), cell_for(b"li", count));
+            let mut room = |exact: u32| match r.below(6) { 0 => exact - 1, 1 => exact + r.below(20) as u32, 2 => r.below(exact as u64 + 4) as u32, _ => exact };
+            if lh { let (x, y) = (room(narrow), room(wide)); o.as_li(p, x); o.back(p, base, true, y); }
+            else { let (x, y) = (room(wide), room(wide)); o.as_lh(p, base, x); if !few { o.back(p, base, false, y); } }
+            if !few && r.chance(4) { if lh { o.as_lh(p, base, wide); o.back(p, base, false, wide); } else { o.as_li(p, wide); o.back(p, base, true, wide); } }
+        };
+        for &one in &lists {
+            ask(o, r, one, false);
+            let (p, lh, count) = one;
+            // another place, another base; the list in the name, by itself and behind some bytes
+            if r.chance(4) { let at = p + r.below(9) + if r.chance(4) { 1 << 32 } else { 0 }; o.as_lh(at, base, 99); o.as_li(at, 99); }
+            if r.chance(4) { let other = r.pick(&[0, base + 1, u32::MAX - end, u32::MAX]); o.as_lh(p, other, cell_for(b"lh", count)); o.back(p, other, true, cell_for(b"lh", count)); }
+            if r.chance(3) && (p as usize) < m.len() {
+                let before = r.range(0, 9).min(p as usize);
+                let lent = &m[p as usize - before..];
+                if lh { o.lent_as_li(lent, before as u64, cell_for(b"li", count)); } else { o.lent_as_lh(lent, before as u64, base, cell_for(b"lh", count)); }
+            }
+        }
+        // one byte of a key or a list changed
+        for _ in 0..6 {
+            let one = r.pick(&lists);
+            let p = one.0 as usize;
+            let at = if r.chance(3) { p + r.range(4, 15) } else { r.pick(&at) as usize + r.pick(&[0, 1, 3, 4, 5, 6, 76, 77, 80, 81, 83]) };
+            if at >= m.len() { continue; }
+            let x = if r.chance(3) { r.next() as u8 } else { m[at] ^ (1 << r.below(8)) };
+            o.patch(at, &[x]);
+            ask(o, r, one, true);
+            o.patch(at, &m[at..at + 1]);
+        }
+    }
+}
+
+/// Hives: each of their lists, as it is and by the letters of the other kinds, and lists of all their keys; then in so many damaged copies. `more`: every
+/// room and letter.
+fn hive_conversion(o: &mut Out<impl Write>, r: &mut Rng, files: &[String], copies: usize, more: bool) {
+    for f in files {
+        let file = std::fs::read(f).expect(f);
+        let m = &file[..file.len().min(IMAGE_MOST)];
+        let found = |signs: &[&[u8]]| -> Vec<usize> { (4096..m.len().saturating_sub(80)).step_by(8).filter(|&p| signs.contains(&&m[p + 4..p + 6])).collect() };
+        let (keys, lists) = (found(&[b"nk"]), found(&[b"lf", b"lh", b"li", b"ri"]));
+        let all = |o: &mut Out<_>, p: usize, rooms: &[u32]| {
+            for &room in rooms { o.as_lh(p as u64, 4096, room); o.as_li(p as u64, room); for li_first in [false, true] { o.back(p as u64, 4096, li_first, room); } }
+        };
+        o.image(m);
+        for &p in &lists {
+            let count = get16(m, p + 6) as usize;
+            let (lh, li) = (cell_for(b"lh", count), cell_for(b"li", count));
+            let rooms = [lh, li - 1, lh - 1, li, 4096, 0];
+            all(o, p, &rooms[..if more { 6 } else { 2 }]);
+            for kind in [b"li", b"lh", b"lf", b"ri"] {
+                if !more && kind != b"lh" { continue; }
+                o.patch(p + 4, kind);
+                all(o, p, &rooms[..if more { 4 } else { 1 }]);
+            }
+            o.patch(p + 4, &m[p + 4..p + 6]);
+        }
+        // all keys, and all but the first; with hints that are right
+        let offsets: Vec<u32> = keys.iter().map(|&p| p as u32 - 4096).collect();
+        let hints: Vec<u32> = keys.iter().map(|&p| hash(get16(m, p + 6), &m[p + 80..(p + 80 + get16(m, p + 76) as usize).min(m.len())])).collect();
+        for from in [0, 1.min(keys.len())] {
+            let (mut li, mut lh) = (vec![], vec![]);
+            list_behind(&mut li, b"li", &offsets[from..], &[]);
+            list_behind(&mut lh, b"lh", &offsets[from..], &hints[from..]);
+            let room = cell_for(b"lh", keys.len() - from);
+            for base in [4096, 4097, 0] { if more || base == 4096 { o.lent_as_lh(&li, 0, base, room); } }
+            o.lent_as_lh(&li, 0, 4096, room - 1);
+            o.lent_as_li(&lh, 0, room);
+            // the same in place of the image's end, where nothing is in use
+            let at = m.len().saturating_sub(lh.len() + 8);
+            if m[at..].iter().all(|&x| x == 0) { o.patch(at, &lh); o.back(at as u64, 4096, true, room); o.patch(at, &li); o.back(at as u64, 4096, false, room); o.patch(at, &m[at..at + lh.len()]); }
+        }
+        for _ in 0..copies {
+            o.image(m);
+            let p = r.pick(&lists);
+            let count = get16(m, p + 6) as usize;
+            // an `lf` list has no other use
+            if &m[p + 4..p + 6] == b"lf" { o.patch(p + 4, b"lh"); }
+            for _ in 0..r.range(1, 2) {
+                let at = match r.below(5) { 0 => p + r.range(4, 7), 1 => p + 8 + r.range(0, 15), _ => r.pick(&keys) + r.pick(&[0, 1, 3, 4, 6, 6, 76, 77, 80, 85, 91]) };
+                let x = if r.chance(3) { r.next() as u8 } else { m[at] ^ (1 << r.below(8)) };
+                o.patch(at, &[x]);
+            }
+            let room = cell_for(b"lh", count);
+            if more || &m[p + 4..p + 6] != b"li" { o.as_li(p as u64, room); o.back(p as u64, 4096, true, room); }
+            if more || &m[p + 4..p + 6] == b"li" { o.as_lh(p as u64, 4096, room); o.back(p as u64, 4096, false, room); }
+        }
+    }
+}
+
 // ---- value data
 
 /// A part of a chain that is made wrong: where, and the bytes there.
@@ -2966,8 +3455,8 @@ fn main() {
     let to = BufWriter::with_capacity(1 << 16, std::io::stdout().lock());
     let mut o = Out::new(to, [1; TAGS], 0);
     match (args.first().map(|s| s.as_str()), number(0), number(1)) {
-        (Some("fixed"), _, _) => { boundaries(&mut o); fixed(&mut o); wide(&mut o); long_leaves(&mut o); cells(&mut o, &mut Rng(0), 0); puts(&mut o, &mut Rng(0), 0); leaves(&mut o, &mut Rng(0), 0, 0); data_edges(&mut o, true); steps(&mut o, true); deleted(&mut o, true); letters(&mut o); arriving(&mut o, true); records_between(&mut o, true); short_names(&mut o); totals(&mut o, true); strict(&mut o, true) }
-        (Some("hives"), _, Some(seed)) => { hives(&mut o, &mut Rng(seed), &args[2..], 12, 40); hive_bins(&mut o, &mut Rng(seed), &args[2..], 40); hive_parts(&mut o, &mut Rng(seed), &args[2..], 40); hive_totals(&mut o, &mut Rng(seed), &args[2..], 40); hive_strict(&mut o, &mut Rng(seed), &args[2..], 40, true) }
+        (Some("fixed"), _, _) => { boundaries(&mut o); fixed(&mut o); wide(&mut o); long_leaves(&mut o); cells(&mut o, &mut Rng(0), 0); puts(&mut o, &mut Rng(0), 0); leaves(&mut o, &mut Rng(0), 0, 0); data_edges(&mut o, true); steps(&mut o, true); deleted(&mut o, true); letters(&mut o); arriving(&mut o, true); records_between(&mut o, true); short_names(&mut o); totals(&mut o, true); strict(&mut o, true); conversion(&mut o, true) }
+        (Some("hives"), _, Some(seed)) => { hives(&mut o, &mut Rng(seed), &args[2..], 12, 40); hive_bins(&mut o, &mut Rng(seed), &args[2..], 40); hive_parts(&mut o, &mut Rng(seed), &args[2..], 40); hive_totals(&mut o, &mut Rng(seed), &args[2..], 40); hive_strict(&mut o, &mut Rng(seed), &args[2..], 40, true); hive_conversion(&mut o, &mut Rng(seed), &args[2..], 40, true) }
         (Some("stored"), _, Some(seed)) => stored(&mut o, seed, &args[2..], false),
         (Some("stored-parts"), _, Some(seed)) => stored_parts(&mut o, seed, &args[2..]),
         (Some("stored-rust"), _, Some(seed)) => {
@@ -2975,8 +3464,9 @@ fn main() {
             stored(&mut o, seed, &args[3..], true)
         }
         (Some("strict"), _, Some(seed)) => { strict(&mut o, true); any_strict(&mut o, &mut Rng(seed), number(2).unwrap_or(0), USUAL.0) }
-        (_, Some(seed), Some(n)) => { rounds(&mut o, &mut Rng(seed), n, USUAL); cells(&mut o, &mut Rng(seed), 10 * n); puts(&mut o, &mut Rng(seed), 10 * n); leaves(&mut o, &mut Rng(seed), n, USUAL.0); datas(&mut o, &mut Rng(seed), 4 * n); dropping(&mut o, &mut Rng(seed), n, USUAL.0); any_steps(&mut o, &mut Rng(seed), n); any_keys(&mut o, &mut Rng(seed), n); any_letters(&mut o, &mut Rng(seed), 10 * n); any_parts(&mut o, &mut Rng(seed), n); any_totals(&mut o, &mut Rng(seed), n, USUAL.0); any_strict(&mut o, &mut Rng(seed), n, USUAL.0) }
-        _ => { eprintln!("usage: cases fixed | hives SEED FILE.. | stored SEED FILE.. | stored-parts SEED FILE.. | stored-rust SEED MARKS FILE.. | strict SEED ROUNDS | SEED ROUNDS"); std::process::exit(2) }
+        (Some("conversion"), _, Some(seed)) => { conversion(&mut o, true); any_conversion(&mut o, &mut Rng(seed), number(2).unwrap_or(0), USUAL.0) }
+        (_, Some(seed), Some(n)) => { rounds(&mut o, &mut Rng(seed), n, USUAL); cells(&mut o, &mut Rng(seed), 10 * n); puts(&mut o, &mut Rng(seed), 10 * n); leaves(&mut o, &mut Rng(seed), n, USUAL.0); datas(&mut o, &mut Rng(seed), 4 * n); dropping(&mut o, &mut Rng(seed), n, USUAL.0); any_steps(&mut o, &mut Rng(seed), n); any_keys(&mut o, &mut Rng(seed), n); any_letters(&mut o, &mut Rng(seed), 10 * n); any_parts(&mut o, &mut Rng(seed), n); any_totals(&mut o, &mut Rng(seed), n, USUAL.0); any_strict(&mut o, &mut Rng(seed), n, USUAL.0); any_conversion(&mut o, &mut Rng(seed), n, USUAL.0) }
+        _ => { eprintln!("usage: cases fixed | hives SEED FILE.. | stored SEED FILE.. | stored-parts SEED FILE.. | stored-rust SEED MARKS FILE.. | strict SEED ROUNDS | conversion SEED ROUNDS | SEED ROUNDS"); std::process::exit(2) }
     }
     o.to.flush().unwrap();
     eprintln!("{} cases", o.cases);

@@ -7,5 +7,6 @@ pub mod Reading
 pub mod Written
 pub mod Trips
 pub mod Exactly
+pub mod Back
 pub mod Papers
 pub mod Examples

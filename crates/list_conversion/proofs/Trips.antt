@@ -1,11 +1,11 @@
 -- The way there and back, of the functions' own answers; and when one is refused. Assumes nothing.
 use mathlib.Core.Path.{_≡_, refl, sym, ap, _∙_}
 use mathlib.Core.List.{List, [], _∷_}
-use Prim.Native.Nat.{ℕ, suc, _+_, _*_, _/_, _%_, _≤_, _<_}
+use Prim.Native.Nat.{ℕ, suc, _+_, _-_, _*_, _/_, _%_, _≤_, _<_, min}
 use native.Mathlib.Nat.{zero-add, mul-suc, mul-le-mul}
 use native.Mathlib.Omega.{arith}
 use lib.Dec.{leb, eqb}
-use lib.ListN.{length, drop}
+use lib.ListN.{length, drop, length-take, length-drop}
 use lib.Seq.{getD-take, getD-drop}
 use Rattle.words.specs.Words.{byteAt, little, word32}
 use Rattle.words.specs.Refusals.{OUTSIDE, BAD-SIGN, BAD-NAME}
@@ -16,8 +16,8 @@ use Rattle.words.proofs.Papers.{same-success, on-success-of}
 use Rattle.words.proofs.Plain.{Plainly, plainly-success, plainly-refused, plainly-by, plainly-cond, plainly-on}
 use Rattle.words.proofs.Buffers.{full-of, untouched}
 use Rattle.words.proofs.Little.{little-same}
-use Rattle.sub_key_list.specs.Lists.{LH, LI, entrySize, Listed, leaf, index, listAt}
-use Rattle.sub_key_list.proofs.Cases.{list-plain}
+use Rattle.sub_key_list.specs.Lists.{LH, LI, RI, entrySize, Listed, leaf, index, kindAt, countAt, listAt}
+use Rattle.sub_key_list.proofs.Cases.{list-leaf, list-plain}
 use Rattle.cell_key_node.specs.Records.{faultAt}
 use Rattle.cell_key_node.specs.Key.{keyFault, keyOf, keyAt, keyName}
 use Rattle.cell_key_node.specs.ValueList.{upTo}
@@ -40,25 +40,37 @@ lent-word n new t q e m j h =
     ap (byteAt t) at ∙ sym (getD-drop q t (j + i) 0) ∙ sym (getD-take n (drop q t) (j + i) 0 (omega arith))
     ∙ ap (λ (l : List ℕ). byteAt l (j + i)) e ∙ getD-take n new (j + i) 0 (omega arith))
 
--- one step, and another one on the cell that it wrote
+-- one step, and the cell that it wrote lent
 module _
     (a z b y : ℕ) (s : List ℕ) (p : ℕ) (old new : List ℕ) (n c : ℕ) (one : Became a z b y s p old new n c)
-    (t : List ℕ) (q : ℕ) (e : Lent n new t q)
-    (old′ new′ : List ℕ) (m d : ℕ) (two : Became b y a z t q old′ new′ m d)
+    (t : List ℕ) (q : ℕ) (e : Lent n new t q) (wide : 4 ≤ y)
   where
-    same-count : d ≡ c
-    same-count =
-        let l = one .holds in
-        sym (leaf-read t q (two .list) .count-is) ∙ lent-word n new t q e 2 6 (omega arith) ∙ leaf-read new 0 (one .cell) .count-is
+    -- the list that is lent is the one that was written
+    pub lent-list : (b ≡ RI → ⊥) → listAt t q ≡ success (leaf b y c)
+    lent-list no-index =
+        let h = one .holds in
+        let r = leaf-read new 0 (one .cell) in
+        let i = r .inside in
+        let k : min n (length (drop q t)) ≡ min n (length new) = sym (length-take n (drop q t)) ∙ ap length e ∙ length-take n new in
+        let d : length (drop q t) ≡ length t - q = length-drop q t in
+        let kind : b ≡ kindAt t q = sym (lent-word n new t q e 2 4 (omega arith) ∙ r .kind-is) in
+        let count : c ≡ countAt t q = sym (lent-word n new t q e 2 6 (omega arith) ∙ r .count-is) in
+        sym (list-leaf t q (omega arith) refl (omega arith) kind count (sym (r .size-is)) (omega arith) (omega arith) no-index)
 
-    module _ (wide : 4 ≤ y) where
-      -- the entry that the second step read
-      lent-offset : (i : ℕ) → i < c → offsetAt t q y i ≡ offsetAt s p z i
-      lent-offset i l =
-          let h = one .holds in
-          let w : y * suc i ≤ y * c = mul-le-mul {n₁ = y} {m₁ = suc i} {n₂ = y} {m₂ = c} (omega arith) (omega arith) in
-          let v : y * suc i ≡ y * i + y = mul-suc y i in
-          lent-word n new t q e 4 (8 + y * i) (omega arith) ∙ ap (word32 new) (sym (zero-add (8 + y * i))) ∙ one .offsets i l
+    -- and its offsets are those of the list that was there first
+    pub lent-offset : (i : ℕ) → i < c → offsetAt t q y i ≡ offsetAt s p z i
+    lent-offset i l =
+        let h = one .holds in
+        let w : y * suc i ≤ y * c = mul-le-mul {n₁ = y} {m₁ = suc i} {n₂ = y} {m₂ = c} (omega arith) (omega arith) in
+        let v : y * suc i ≡ y * i + y = mul-suc y i in
+        lent-word n new t q e 4 (8 + y * i) (omega arith) ∙ ap (word32 new) (sym (zero-add (8 + y * i))) ∙ one .offsets i l
+
+    -- another step on it
+    module _ (old′ new′ : List ℕ) (m d : ℕ) (two : Became b y a z t q old′ new′ m d) where
+      same-count : d ≡ c
+      same-count =
+          let l = one .holds in
+          sym (leaf-read t q (two .list) .count-is) ∙ lent-word n new t q e 2 6 (omega arith) ∙ leaf-read new 0 (one .cell) .count-is
 
       same-entries : SameEntries a z s p new′ c
       same-entries = record {
@@ -71,17 +83,17 @@ pub from-li : FromLi
 from-li s b p image base old new n x t bt q e old′ new′ m x′ =
     let one = wrote-lh s b p image base old new n x in
     let two = wrote-li t bt q old′ new′ m x′ in
-    (one .0, same-entries LI 4 LH 8 s p old new n (one .0) (one .1) t q e old′ new′ m (two .0) (two .1) (omega arith))
+    (one .0, same-entries LI 4 LH 8 s p old new n (one .0) (one .1) t q e (omega arith) old′ new′ m (two .0) (two .1))
 
 pub from-lh : FromLh
 from-lh s b p old new n x t bt q e image base old′ new′ m x′ =
     let one = wrote-li s b p old new n x in
     let two = wrote-lh t bt q image base old′ new′ m x′ in
-    let k : two .0 ≡ one .0 = same-count LH 8 LI 4 s p old new n (one .0) (one .1) t q e old′ new′ m (two .0) (two .1) in (
+    let k : two .0 ≡ one .0 = same-count LH 8 LI 4 s p old new n (one .0) (one .1) t q e (omega arith) old′ new′ m (two .0) (two .1) in (
       one .0,
-      same-entries LH 8 LI 4 s p old new n (one .0) (one .1) t q e old′ new′ m (two .0) (two .1) (omega arith),
+      same-entries LH 8 LI 4 s p old new n (one .0) (one .1) t q e (omega arith) old′ new′ m (two .0) (two .1),
       λ i l r.
-          let o : offsetAt t q 4 i ≡ offsetAt s p 8 i = lent-offset LH 8 LI 4 s p old new n (one .0) (one .1) t q e old′ new′ m (two .0) (two .1) (omega arith) i l in
+          let o : offsetAt t q 4 i ≡ offsetAt s p 8 i = lent-offset LH 8 LI 4 s p old new n (one .0) (one .1) t q e (omega arith) i l in
           same-success (sym (two .2 i (omega arith)) ∙ ap (λ (u : ℕ). keyHash image (u + base)) o ∙ r),
     )
 

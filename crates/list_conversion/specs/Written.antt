@@ -1,5 +1,5 @@
 -- Document 02, order 10, of the functions' own answers: what stands in the buffer, when it is refused, and the way there and back. Proved in
--- proofs/Written.antt and proofs/Trips.antt.
+-- proofs/Written.antt, proofs/Exactly.antt, proofs/Trips.antt and proofs/Back.antt.
 use Prim.Native.Nat.{ℕ, _+_, _*_, _%_, _^_, _≤_, _<_}
 use mathlib.Core.Path.{_≡_}
 use mathlib.Core.Logic.{_↔_, _⊎_}
@@ -158,3 +158,22 @@ FromLh =
     → LhAnswered t q image base old′ (Written m) new′
     → (count : ℕ) × SameEntries LH 8 s p new′ count
     × ((i : ℕ) → i < count → keyHash image (offsetAt s p 8 i + base) ≡ success (hashAt s p i) → hashAt new′ 0 i ≡ hashAt s p i)
+
+-- when the way back succeeds: to `li` exactly where the cell fits, since the list that was written reads; to `lh` exactly where each key has a
+-- hash besides
+abbrev pub BackToLi : Type 0
+BackToLi =
+    (s : List ℕ) → Bytes s → (p : ℕ) (image : List ℕ) (base : ℕ) (old new : List ℕ) (n : ℕ) → LhAnswered s p image base old (Written n) new
+    → (t : List ℕ) (q : ℕ) → Lent n new t q → (old′ : List ℕ) (r : ConversionAnswer) (new′ : List ℕ) → LiAnswered t q old′ r new′
+    → (count : ℕ) × (listAt s p ≡ success (leaf LI 4 count)) × (WasWritten r ↔ (cellSize 4 count ≤ length old′))
+
+abbrev pub BackToLh : Type 0
+BackToLh =
+    (s : List ℕ) → Bytes s → (p : ℕ) (old new : List ℕ) (n : ℕ) → LiAnswered s p old (Written n) new
+    → (t : List ℕ) (q : ℕ) → Lent n new t q → (image : List ℕ) (base : ℕ) (old′ : List ℕ) (r : ConversionAnswer) (new′ : List ℕ)
+    → LhAnswered t q image base old′ r new′
+    → (count : ℕ)
+    × (listAt s p ≡ success (leaf LH 8 count))
+    × (WasWritten r
+    ↔ (((i : ℕ) → i < count → (h : ℕ) × (keyHash image (offsetAt s p 8 i + base) ≡ success h))
+    × (cellSize 8 count ≤ length old′)))

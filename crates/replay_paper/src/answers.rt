@@ -1,7 +1,10 @@
 // The functions of the project, each called with what a case gives it, and its answer written out.
 use super::buffers;
+use super::bytes;
+use super::conversion;
 use super::lines;
 use super::lines::refused;
+use super::lines::room_refused;
 use super::parts;
 use super::places;
 use super::totals;
@@ -26,17 +29,9 @@ use hive_bin::Step;
 use name_hash::HashAnswer;
 use replay_case::Case;
 use value_data::DataAnswer;
-use words::RoomRefusal;
 
 fn size(n: usize) {
     lines::number(n as u64);
-}
-
-fn room_refused(refusal: RoomRefusal) {
-    lines::text(b" refused");
-    lines::word(refusal.number);
-    size(refusal.position);
-    size(refusal.places);
 }
 
 fn checksum(image: &[u8]) {
@@ -349,12 +344,11 @@ fn put_number(case: Case, out: &mut [u8]) -> bool {
 }
 
 fn put_line(case: Case, out: &mut [u8]) {
-    buffers::prefill_bytes(out);
+    bytes::prefill(out);
     let written = put_number(case, out);
     lines::text(b" ok");
     lines::flag(written);
-    lines::row(out);
-    buffers::untouched_bytes(out);
+    bytes::told(out);
 }
 
 fn put(case: Case) {
@@ -375,13 +369,12 @@ fn data_line(answer: DataAnswer, out: &[u8]) {
         }
         DataAnswer::Refused(refusal) => room_refused(refusal),
     }
-    lines::row(out);
-    buffers::untouched_bytes(out);
+    bytes::told(out);
 }
 
 // By the words a and b as a record's numbers, or by the record at the position a.
 fn data(image: &[u8], case: Case, out: &mut [u8]) {
-    buffers::prefill_bytes(out);
+    bytes::prefill(out);
     let answer = value_data::value_data(image, case.c, case.d, case.a, case.b, out);
     data_line(answer, out);
 }
@@ -389,7 +382,7 @@ fn data(image: &[u8], case: Case, out: &mut [u8]) {
 fn data_of(image: &[u8], case: Case, out: &mut [u8]) {
     match cell_key_value::read_key_value(image, case.a as usize) {
         ValueAnswer::Value(value) => {
-            buffers::prefill_bytes(out);
+            bytes::prefill(out);
             let answer = value_data::value_data_of(image, case.c, case.d, value, out);
             data_line(answer, out);
         }
@@ -448,6 +441,7 @@ pub fn answer(tag: u8, case: Case, image: &[u8], name: &[u8], out: &mut [u32]) {
         26 => parts::row_of_parts(case, image, name),
         27 => parts::one_part(case, image, name),
         28 => totals::row_of_calls(image, name),
+        35..=37 => conversion::answer(tag, case, image, name),
         _ => lines::text(b" none"),
     }
 }

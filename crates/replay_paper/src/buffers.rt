@@ -1,20 +1,7 @@
-// The other buffers of a case, of bytes and of 64-bit places: filled with the same pattern before, and told in the same way.
+// A case's buffer of 64-bit places: filled with the pattern of `places` before, and told in the same way.
 use super::lines;
 
-// Of bytes the pattern has 8 bits.
-const BYTE_STEP: u8 = 177;
-
-pub fn prefill_bytes(out: &mut [u8]) {
-    let mut x: u8 = 0;
-    let mut i: usize = 0;
-    while i < out.len() {
-        x = std::num::wrapping_add_u8(x, BYTE_STEP);
-        out[i] = x;
-        i += 1;
-    }
-}
-
-// Of 64-bit places it has 64.
+// The pattern has 64 bits here.
 const WIDE_STEP: u64 = 2654435761;
 
 pub fn prefill_wide(out: &mut [u64]) {
@@ -25,21 +12,6 @@ pub fn prefill_wide(out: &mut [u64]) {
         out[i] = x;
         i += 1;
     }
-}
-
-// How many places of a buffer of bytes hold the pattern.
-pub fn untouched_bytes(out: &[u8]) {
-    let mut x: u8 = 0;
-    let mut count: u64 = 0;
-    let mut i: usize = 0;
-    while i < out.len() {
-        x = std::num::wrapping_add_u8(x, BYTE_STEP);
-        if words::byte_at(out, i) == x {
-            count = std::num::wrapping_add_u64(count, 1);
-        }
-        i += 1;
-    }
-    lines::number(count);
 }
 
 // How many 64-bit places from `from` on hold the pattern.

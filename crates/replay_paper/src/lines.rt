@@ -1,5 +1,6 @@
 // How values are written: each with a space before it.
 use words::Refusal;
+use words::RoomRefusal;
 
 pub fn text(s: &[u8]) {
     io::write_all(1, s);
@@ -38,6 +39,13 @@ pub fn refused(refusal: Refusal) {
     text(b" refused");
     word(refusal.number);
     number(refusal.position as u64);
+}
+
+pub fn room_refused(refusal: RoomRefusal) {
+    text(b" refused");
+    word(refusal.number);
+    number(refusal.position as u64);
+    number(refusal.places as u64);
 }
 
 // Two hex digits for each byte, `-` for none.

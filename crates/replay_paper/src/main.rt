@@ -2,6 +2,8 @@
 // have the answers of document 01 as compare/paper.py reads it.
 mod answers;
 mod buffers;
+mod bytes;
+mod conversion;
 mod lines;
 mod parts;
 mod places;

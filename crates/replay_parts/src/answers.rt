@@ -1,5 +1,6 @@
-// The project's functions for bins as they arrive, for totals beside the keys and for the strict profile, with the ordinary reading beside that,
-// called with what a case gives them, and their answers written out.
+// The project's functions for bins as they arrive, for totals beside the keys, for the strict profile, with the ordinary reading beside that, and
+// for lists written as the other kind, called with what a case gives them, and their answers written out.
+use super::conversion;
 use super::lines;
 use super::parts;
 use super::totals;
@@ -12,6 +13,7 @@ pub fn answer(tag: u8, case: Case, image: &[u8], name: &[u8], out: &mut [u32]) {
         27 => parts::one_part(case, image, name),
         28 => totals::row_of_calls(image, name),
         5 | 11 | 14 | 16 | 17 | 20 | 29..=34 => walks::answer(tag, case, image, name, out),
+        35..=37 => conversion::answer(tag, case, image, name),
         _ => lines::text(b" none"),
     }
 }

@@ -1,15 +1,14 @@
 use borrow.Author.Needs.{needs}
 use Prim.Native.Nat.{_≤_, _-_}
-use mathlib.Core.Path.{_≡_}
 use lib.ListN.{length}
-use Rattle.replay_paper.proofs.buffers.prefill_bytes.Statement.{statement}
-use Rattle.replay_paper.proofs.buffers.prefill_bytes.Tie as tie
+use Rattle.replay_parts.proofs.bytes.untouched.Statement.{statement}
+use Rattle.replay_parts.proofs.bytes.untouched.Tie as tie
 
 abbrev Inv-loop : tie.InvT-loop
-Inv-loop out₀ x₀ i₀ out x i = (i ≤ length out₀) × (length out ≡ length out₀)
+Inv-loop out x₀ count₀ i₀ x count i = i ≤ length out
 
 abbrev μ-loop : tie.MeasureT-loop
-μ-loop out₀ x₀ i₀ out x i = length out₀ - i
+μ-loop out x₀ count₀ i₀ x count i = length out - i
 
 loop-holds : tie.Need-loop-holds Inv-loop μ-loop
 loop-holds c = search needs
@@ -17,8 +16,11 @@ loop-holds c = search needs
 wrapping-add-u8-requires : tie.Need-wrapping-add-u8-requires Inv-loop μ-loop
 wrapping-add-u8-requires c κs = search needs
 
-slice-write-out : tie.Need-slice-write-out Inv-loop μ-loop
-slice-write-out c = search needs
+byte-at-requires : tie.Need-byte-at-requires Inv-loop μ-loop
+byte-at-requires c κs = search needs
+
+wrapping-add-u64-requires : tie.Need-wrapping-add-u64-requires Inv-loop μ-loop
+wrapping-add-u64-requires c κs = search needs
 
 add-i : tie.Need-add-i Inv-loop μ-loop
 add-i c = search needs
@@ -29,23 +31,24 @@ loop-less c = search needs
 loop-again : tie.Need-loop-again Inv-loop μ-loop
 loop-again c = search needs
 
-same-length : tie.Need-same-length Inv-loop μ-loop
-same-length c = search needs
+number-requires : tie.Need-number-requires Inv-loop μ-loop
+number-requires c κs = search needs
 
 returns : tie.Need-returns Inv-loop μ-loop
 returns c = search needs
 
-pub prefill-bytes-spec : {M : Type 1} → statement M
-prefill-bytes-spec =
+pub untouched-spec : {M : Type 1} → statement M
+untouched-spec =
     tie.close
     (tie.spec
     Inv-loop
     μ-loop
     loop-holds
     wrapping-add-u8-requires
-    slice-write-out
+    byte-at-requires
+    wrapping-add-u64-requires
     add-i
     loop-less
     loop-again
-    same-length
+    number-requires
     returns)

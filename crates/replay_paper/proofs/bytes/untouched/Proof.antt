@@ -1,8 +1,8 @@
 use borrow.Author.Needs.{needs}
 use Prim.Native.Nat.{_≤_, _-_}
 use lib.ListN.{length}
-use Rattle.replay_paper.proofs.buffers.untouched_bytes.Statement.{statement}
-use Rattle.replay_paper.proofs.buffers.untouched_bytes.Tie as tie
+use Rattle.replay_paper.proofs.bytes.untouched.Statement.{statement}
+use Rattle.replay_paper.proofs.bytes.untouched.Tie as tie
 
 abbrev Inv-loop : tie.InvT-loop
 Inv-loop out x₀ count₀ i₀ x count i = i ≤ length out
@@ -37,8 +37,8 @@ number-requires c κs = search needs
 returns : tie.Need-returns Inv-loop μ-loop
 returns c = search needs
 
-pub untouched-bytes-spec : {M : Type 1} → statement M
-untouched-bytes-spec =
+pub untouched-spec : {M : Type 1} → statement M
+untouched-spec =
     tie.close
     (tie.spec
     Inv-loop

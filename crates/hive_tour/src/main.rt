@@ -10,6 +10,7 @@ use cell_key_value::ValueAnswer;
 use deleted_keys::DeletedAnswer;
 use hive_bin::BinsAnswer;
 use key_totals::KeptAnswer;
+use list_conversion::ConversionAnswer;
 use sub_key_walk::WalkAnswer;
 use value_data::DataAnswer;
 
@@ -189,6 +190,87 @@ fn strictly(image: &[u8], minor: u32, key: KeyNode) {
     }
 }
 
+// Whether two lists have the same bytes from behind the size word to an end.
+fn same_list(one: &[u8], two: &[u8], end: usize) -> bool {
+    let mut i: usize = 4;
+    while i < end {
+        if words::byte_at(one, i) != words::byte_at(two, i) {
+            return false;
+        }
+        i += 1;
+    }
+    true
+}
+
+// What came back, beside the list that is stored: kind, count and entries.
+fn compared(stored: &[u8], back: &[u8], end: usize) {
+    number(back.len() as u64);
+    if same_list(stored, back, end) {
+        say(b" same");
+    } else {
+        say(b" other");
+    }
+    line();
+}
+
+fn back_as_lh(image: &[u8], stored: &[u8], cell: &[u8]) {
+    let mut out = [0u8; 1024];
+    let end = 8 + 8 * (words::u16_at(stored, 6) as usize);
+    number(cell.len() as u64);
+    match list_conversion::write_lh(cell, 0, image, BASE, &mut out) {
+        ConversionAnswer::Refused(f) => refused(f.number, f.position),
+        ConversionAnswer::Written(n) => compared(stored, words::part(&out, 0, n as usize), end),
+    }
+}
+
+fn back_as_li(stored: &[u8], cell: &[u8]) {
+    let mut out = [0u8; 1024];
+    let end = 8 + 4 * (words::u16_at(stored, 6) as usize);
+    number(cell.len() as u64);
+    match list_conversion::write_li(cell, 0, &mut out) {
+        ConversionAnswer::Refused(f) => refused(f.number, f.position),
+        ConversionAnswer::Written(n) => compared(stored, words::part(&out, 0, n as usize), end),
+    }
+}
+
+// An `li` list as `lh`: each hash is that of the name of the key that the entry names.
+fn converted_li(image: &[u8], position: usize) {
+    let mut out = [0u8; 1024];
+    match list_conversion::write_lh(image, position, image, BASE, &mut out) {
+        ConversionAnswer::Refused(f) => refused(f.number, f.position),
+        ConversionAnswer::Written(n) => {
+            back_as_li(
+                words::from(image, position),
+                words::part(&out, 0, n as usize),
+            );
+        }
+    }
+}
+
+// Step 12: a key's list written as the other kind into a lent buffer, an `lh` list as `li` or an `li` list as `lh`, and that cell written back.
+// A list of any other kind is refused by 4. A buffer that is too small is refused by 9, with the places needed.
+fn converted(image: &[u8], key: KeyNode) {
+    let mut out = [0u8; 1024];
+    let position = key.sub_keys_list_offset_relative as usize + BASE as usize;
+    say(b" converted");
+    match list_conversion::write_li(image, position, &mut out) {
+        ConversionAnswer::Refused(f) => {
+            if f.number == words::BAD_SIGN {
+                converted_li(image, position);
+            } else {
+                refused(f.number, f.position);
+            }
+        }
+        ConversionAnswer::Written(n) => {
+            back_as_lh(
+                image,
+                words::from(image, position),
+                words::part(&out, 0, n as usize),
+            );
+        }
+    }
+}
+
 // Step 3: the root key, at the root offset plus the base. The offset is signed, and a negative one is refused by 2.
 fn root(image: &[u8], minor: u32, offset: i32) {
     say(b" root");
@@ -204,6 +286,7 @@ fn root(image: &[u8], minor: u32, offset: i32) {
             sub_keys(image, minor, key);
             totals(image, position, key);
             strictly(image, minor, key);
+            converted(image, key);
         }
     }
 }

@@ -12,7 +12,7 @@ ghost use lib.ListN.{length};
 ghost use Rattle.words.specs.Refusals.{BAD-SIGN};
 ghost use Rattle.words.specs.Paper.{refused, by, told, verdictPaper};
 ghost use Rattle.words.specs.Buffers.{needing};
-ghost use Rattle.sub_key_list.specs.Lists as kinds;
+ghost use Rattle.sub_key_list.specs.Lists.{LH};
 ghost use Rattle.cell_key_node.specs.ValueList.{upTo};
 ghost use Rattle.name_hash.specs.Hash.{hashPaper};
 ghost use Rattle.writing.specs.Writing.{withBytes, bytesOf};
@@ -20,11 +20,7 @@ ghost use Rattle.list_conversion.specs.Cells.{cellSize, header, rowBytes
 ghost use Rattle.list_conversion.specs.Entries.{offsetIn, countOf, countPaper, keyHash, judgedOf, lhCount, orZero, lhEntry};
 ghost use Rattle.list_conversion.specs.Answers.{conversionPaper, LhAnswered, LiAnswered};
 
-// The kinds of list that are written, each by the word of its two letters, and the bytes of an entry of each.
-const LH: u16 = 0x686c;
-
-const LI: u16 = 0x696c;
-
+// The bytes of an entry of each kind of list that is written.
 const LH_ENTRY: u8 = 8;
 
 const LI_ENTRY: u8 = 4;
@@ -32,7 +28,7 @@ const LI_ENTRY: u8 = 4;
 // The bytes before a list's entries.
 const HEADER: usize = 8;
 
-// Offset plus base is below this.
+// An offset plus base that a key record can have is below this.
 const ADDRESSES: usize = 4294967296;
 
 // The bytes of the cell that is written, or why none is.
@@ -123,7 +119,7 @@ fn check_keys(list: &[u8], count: u16, image: &[u8], base: u32) -> Verdict
 fn judge_lh(list: &[u8], position: usize, image: &[u8], base: u32) -> CountAnswer
     ensures { λ r. ⌜ countPaper r ≡ lhCount (now (list .entry)) position (now (image .entry)) base ⌝ }
 {
-    match count_of(list, position, LI) {
+    match count_of(list, position, sub_key_list::LI) {
         CountAnswer::Refused(fault) => CountAnswer::Refused(fault),
         CountAnswer::Count(count) => {
             let entries = words::from(list, position);
@@ -263,7 +259,7 @@ fn lay_lh(
                 return no_room(size);
             }
             let entries = words::from(list, position);
-            put_header(size, LH, count, out);
+            put_header(size, sub_key_list::LH, count, out);
             put_lh_entries(entries, count, image, base, out);
             put_rest(size, LH_ENTRY, count, out);
             ConversionAnswer::Written(size)
@@ -273,7 +269,7 @@ fn lay_lh(
 
 // The `li` cell of an `lh` list that is judged.
 fn lay_li(judged: CountAnswer, list: &[u8], position: usize, out: &mut [u8]) -> ConversionAnswer
-    requires { ⌜ countPaper judged ≡ countOf kinds.LH (now list) position ⌝ }
+    requires { ⌜ countPaper judged ≡ countOf LH (now list) position ⌝ }
     ensures { λ r. ⌜ LiAnswered (now (list .entry)) position (now (out .entry)) r (now (out .exit)) ⌝ }
 {
     match judged {
@@ -284,7 +280,7 @@ fn lay_li(judged: CountAnswer, list: &[u8], position: usize, out: &mut [u8]) -> 
                 return no_room(size);
             }
             let entries = words::from(list, position);
-            put_header(size, LI, count, out);
+            put_header(size, sub_key_list::LI, count, out);
             put_li_entries(entries, count, out);
             put_rest(size, LI_ENTRY, count, out);
             ConversionAnswer::Written(size)
@@ -311,6 +307,6 @@ pub fn write_lh(
 pub fn write_li(list: &[u8], position: usize, out: &mut [u8]) -> ConversionAnswer
     ensures { λ r. ⌜ LiAnswered (now (list .entry)) position (now (out .entry)) r (now (out .exit)) ⌝ }
 {
-    let judged = count_of(list, position, LH);
+    let judged = count_of(list, position, sub_key_list::LH);
     lay_li(judged, list, position, out)
 }

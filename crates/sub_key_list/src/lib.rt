@@ -13,9 +13,9 @@ ghost use Rattle.sub_key_list.specs.Strict.{leastMinor, permitted, riUnd
 // The kinds of list, each by the word of its two letters.
 const LF: u16 = 0x666c;
 
-const LH: u16 = 0x686c;
+pub const LH: u16 = 0x686c;
 
-const LI: u16 = 0x696c;
+pub const LI: u16 = 0x696c;
 
 const RI: u16 = 0x6972;
 

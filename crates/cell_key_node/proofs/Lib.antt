@@ -1,5 +1,6 @@
 pub mod Checks
 pub mod Records
+pub mod Keys
 pub mod Places
 pub mod Fill
 pub mod ValueLists

@@ -19,9 +19,12 @@ keyFault image position = faultAt image position 80 0x6B6E 76
 -- volatile subkeys 28, subkey list 32, volatile list 36 (signed), values 40, value list 44 (signed), security 48, class 52
 -- (signed), four largest sizes 56 to 68, work 72, name length 76 and class length 78 (16 bits each)"
 -- "A negative size means allocated, a positive one free"
-unfoldable pub keyOf : List ℕ → KeyNode
-keyOf cell =
+-- Before them, "The key record is to carry its position and base" (document 02, order 11).
+unfoldable pub keyOf : ℕ → ℕ → List ℕ → KeyNode
+keyOf p base cell =
     record {
+      position = p;
+      base = base;
       size = signed (word32 cell 0);
       allocated = ltZ (signed (word32 cell 0)) (pos 0);
       «key_node_flag_bits» = word16 cell 6;
@@ -45,9 +48,9 @@ keyOf cell =
       «class_name_size» = word16 cell 78;
     }
 
--- the record at a position; a refusal's position is the record's
-unfoldable pub keyAt : List ℕ → ℕ → Paper KeyNode
-keyAt image position = checked (keyFault image position) position (keyOf (drop position image))
+-- the record at a position, with a base; a refusal's position is the record's
+unfoldable pub keyAt : List ℕ → ℕ → ℕ → Paper KeyNode
+keyAt image position base = checked (keyFault image position) position (keyOf position base (drop position image))
 
 -- "The name and the slack (from the name's end to the cell's end) are handed back as parts of the caller's image; for a refused
 -- record each is the empty part." "name 80"

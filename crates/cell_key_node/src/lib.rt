@@ -1,5 +1,5 @@
-// Key records: the record at a position, its name and its slack as parts of the image, its value list, and its subkeys. The
-// checks of a record are shared with the value records.
+// Key records: the record at a position, its name and its slack as parts of the image, and its value list by plain
+// numbers. The checks of a record are shared with the value records.
 ghost use mathlib.Core.Path.{_≡_};
 ghost use Prim.Native.Nat.{_≤_};
 ghost use mathlib.Core.List.{_++_};
@@ -9,10 +9,7 @@ ghost use Rattle.words.specs.Parts.{Part};
 ghost use Rattle.cell_key_node.specs.Records.{sizeOf, cellFault, faultAt, recordAt};
 ghost use Rattle.cell_key_node.specs.Key.{keyOf, keyAt, keyPaper, keyName, keyNameAt, keySlack, keySlackAt};
 ghost use Rattle.cell_key_node.specs.ValueList.{placeOf, placePaper, upTo, entryOf, ListAnswered};
-ghost use Rattle.sub_key_walk.specs.Answers.{measured, walkPaper, WalkAnswered};
-ghost use Rattle.sub_key_walk.specs.Strict.{strictMeasured, StrictAnswered};
 use sub_key_walk::COUNT_LIMIT;
-use sub_key_walk::WalkAnswer;
 use words::Refusal;
 use words::RoomRefusal;
 use words::Verdict;
@@ -24,8 +21,11 @@ const SIGNATURE: u16 = 0x6B6E;
 
 const NAME_SIZE_AT: usize = 76;
 
-// A key record's numbers, in the order in which they stand; `allocated` is the sign of its size.
+// A key record: where it stands in the image, and the base that offsets are relative to; then its numbers, in the order in which they
+// stand. `allocated` is the sign of its size.
 pub struct KeyNode {
+    pub position: usize,
+    pub base: u32,
     pub size: i32,
     pub allocated: bool,
     pub key_node_flag_bits: u16,
@@ -135,12 +135,14 @@ pub fn check_record(
     }
 }
 
-// The numbers of a key record's cell.
-fn key_in(cell: &[u8]) -> KeyNode
-    ensures { λ r. ⌜ r ≡ keyOf (now (cell .entry)) ⌝ }
+// The key record of a cell that stands at a position, with a base.
+fn key_in(cell: &[u8], position: usize, base: u32) -> KeyNode
+    ensures { λ r. ⌜ r ≡ keyOf position base (now (cell .entry)) ⌝ }
 {
     let size = words::i32_at(cell, 0);
     KeyNode {
+        position,
+        base,
         size: size,
         allocated: size < 0,
         key_node_flag_bits: words::u16_at(cell, 6),
@@ -165,15 +167,15 @@ fn key_in(cell: &[u8]) -> KeyNode
     }
 }
 
-// The key record at a position.
-pub fn read_key_node(image: &[u8], position: usize) -> KeyAnswer
-    ensures { λ r. ⌜ keyPaper r ≡ keyAt (now (image .entry)) position ⌝ }
+// The key record at a position, which with the base it keeps.
+pub fn read_key_node(image: &[u8], position: usize, base: u32) -> KeyAnswer
+    ensures { λ r. ⌜ keyPaper r ≡ keyAt (now (image .entry)) position base ⌝ }
 {
     match check_record(image, position, FIXED, SIGNATURE, NAME_SIZE_AT) {
         Verdict::Refused(refusal) => KeyAnswer::Refused(refusal),
         Verdict::Whole => {
             let cell = words::from(image, position);
-            let key = key_in(cell);
+            let key = key_in(cell, position, base);
             KeyAnswer::Key(key)
         }
     }
@@ -297,69 +299,4 @@ pub fn value_list(
             ValueListAnswer::Listed(count)
         }
     }
-}
-
-// The value list of a key record, from the record.
-pub fn value_list_of(image: &[u8], base: u32, key: KeyNode, out: &mut [u32]) -> ValueListAnswer
-    ensures { λ r. ⌜ ListAnswered (now (image .entry)) base (key .«number_of_key_values») (key .«key_values_list_offset_relative») (now (out .entry)) r (now (out .exit)) ⌝ }
-{
-    let count = key.number_of_key_values;
-    let offset = key.key_values_list_offset_relative;
-    value_list(image, base, count, offset, out)
-}
-
-// The subkeys of a key record, from the record: the walk of its list, within a budget of lists, into `out`.
-pub fn sub_keys_of(
-    image: &[u8],
-    base: u32,
-    key: KeyNode,
-    budget: u32,
-    out: &mut [u32],
-) -> WalkAnswer
-    ensures { λ r. ⌜ WalkAnswered (now (image .entry)) base (key .«number_of_sub_keys») (key .«sub_keys_list_offset_relative») budget (now (out .entry)) r (now (out .exit)) ⌝ }
-{
-    let count = key.number_of_sub_keys;
-    let list = key.sub_keys_list_offset_relative;
-    sub_key_walk::sub_keys(image, base, count, list, budget, out)
-}
-
-// What that walk counts, with no regard to room: the places that its offsets need among it. Nothing is written.
-pub fn sub_key_counts_of(image: &[u8], base: u32, key: KeyNode, budget: u32) -> WalkAnswer
-    ensures { λ r. ⌜ walkPaper r ≡ measured (now (image .entry)) base (key .«number_of_sub_keys») (key .«sub_keys_list_offset_relative») budget ⌝ }
-{
-    let subkeys = key.number_of_sub_keys;
-    let first = key.sub_keys_list_offset_relative;
-    sub_key_walk::sub_key_counts(image, base, subkeys, first, budget)
-}
-
-// The subkeys of a key record with each list read strictly: only what the minor version permits, each list inside an allocated cell of
-// its own, and no `ri` list named by an `ri` list.
-pub fn strict_sub_keys_of(
-    image: &[u8],
-    base: u32,
-    key: KeyNode,
-    budget: u32,
-    minor: u32,
-    out: &mut [u32],
-) -> WalkAnswer
-    ensures { λ r. ⌜ StrictAnswered (now (image .entry)) base (key .«number_of_sub_keys») (key .«sub_keys_list_offset_relative») budget minor (now (out .entry)) r (now (out .exit)) ⌝ }
-{
-    let number = key.number_of_sub_keys;
-    let start = key.sub_keys_list_offset_relative;
-    sub_key_walk::strict_sub_keys(image, base, number, start, budget, minor, out)
-}
-
-// What the strict walk counts, with no regard to room. Nothing is written.
-pub fn strict_sub_key_counts_of(
-    image: &[u8],
-    base: u32,
-    key: KeyNode,
-    budget: u32,
-    minor: u32,
-) -> WalkAnswer
-    ensures { λ r. ⌜ walkPaper r ≡ strictMeasured (now (image .entry)) base (key .«number_of_sub_keys») (key .«sub_keys_list_offset_relative») budget minor ⌝ }
-{
-    let keys = key.number_of_sub_keys;
-    let top = key.sub_keys_list_offset_relative;
-    sub_key_walk::strict_sub_key_counts(image, base, keys, top, budget, minor)
 }

@@ -5,7 +5,6 @@ ghost use Rattle.cell_key_node.specs.ValueList.{upTo, entryOf};
 ghost use Rattle.cell_key_value.specs.Value.{valueOf, valueAt, valuePaper, valueName, valueNameAt};
 ghost use Rattle.cell_key_value.specs.Text.{lowerOf, sameText, matchesOf};
 ghost use Rattle.cell_key_value.specs.Lookup.{refusalOf, lookThrough, lookupOf, lookupPaper};
-use cell_key_node::KeyNode;
 use cell_key_node::PlaceAnswer;
 use words::Refusal;
 use words::Verdict;
@@ -194,13 +193,4 @@ pub fn find_value(image: &[u8], base: u32, count: u32, offset: i32, name: &[u8])
         }
         PlaceAnswer::Refused(refusal) => LookupAnswer::Refused(refusal),
     }
-}
-
-// The value of a name in a key record's value list, from the record.
-pub fn find_value_of(image: &[u8], base: u32, key: KeyNode, name: &[u8]) -> LookupAnswer
-    ensures { λ r. ⌜ lookupPaper r ≡ lookupOf (now (image .entry)) base (key .«number_of_key_values») (key .«key_values_list_offset_relative») (now (name .entry)) ⌝ }
-{
-    let count = key.number_of_key_values;
-    let offset = key.key_values_list_offset_relative;
-    find_value(image, base, count, offset, name)
 }

@@ -42,7 +42,7 @@ pub listed :
     × (deletedOf (eighty (176 ∷ 255 ∷ 255 ∷ 255 ∷ []) 0) 16 4096 ≡ success [])
     × (deletedOf (eighty (small 80 0) 1) 16 4096 ≡ success [])
     × (deletedOf holding 16 4096 ≡ success [])
-    × (succeeds (keyAt holding 56) ≡ true)
+    × (succeeds (keyAt holding 56 0) ≡ true)
 unfolding deletedOf onSuccess cellsOf binsAt shift binsIn row rowGo binRow goodBin goodHeader cellRow goodCell join little signed positionsOf isDeleted negative keyAt keyFault faultAt cellFault sizeOf checked
 listed = (refl, refl, refl, refl, refl)
 

@@ -31,7 +31,7 @@ module _ (image : List ℕ) (position : ℕ) (z : ℤ) (held : SFits w32 z) wher
   unfolding isDeleted
   allocated e = simp (negative-read z held e)
 
-  module _ (e : ltZ (read z) (pos 0) ≡ false) {r : KeyAnswer} (is : keyPaper r ≡ keyAt image position) where
+  module _ (e : ltZ (read z) (pos 0) ≡ false) {r : KeyAnswer} (is : keyPaper r ≡ keyAt image position 0) where
     pub a-key : {k : KeyNode} → r ≡ Key k → true ≡ isDeleted image (record { place = position; size = z })
     unfolding isDeleted
     a-key f = simp (positive-read z held e, sym is ∙ ap keyPaper f)

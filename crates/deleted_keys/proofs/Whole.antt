@@ -21,6 +21,7 @@ use Rattle.hive_bin.specs.Steps.{cellsOf, places, Rising}
 use Rattle.hive_bin.proofs.Stepping.{rising-later, rising}
 use Rattle.hive_bin.proofs.Totals.{OfBins, given}
 use Rattle.cell_key_node.specs.Key.{keyAt}
+use Rattle.cell_key_node.proofs.Keys.{any-base}
 use Rattle.cell_key_node.specs.declared.KeyNode.{KeyNode}
 use Rattle.deleted_keys.specs.declared.DeletedAnswer.the-variants.{Listed, Refused}
 use Rattle.deleted_keys.specs.Deleted.{succeeds, isDeleted, positionsOf, deletedOf, listedOf, rowOf, DeletedAnswered}
@@ -65,16 +66,16 @@ module _ (image : List ℕ) where
   deleted-of : (c : Found) (cs : List Found) → Among c cs → isDeleted image c ≡ true → Deleted image cs (c .place)
   unfolding isDeleted
   deleted-of c cs h e =
-      let t = free-key (negative (c .size)) (succeeds (keyAt image (c .place))) e in
-      let k = key-of (keyAt image (c .place)) (t .1) in
-      record { cell = c; among = h; place = refl; free = t .0; key = k .0; reads = k .1 }
+      let t = free-key (negative (c .size)) (succeeds (keyAt image (c .place) 0)) e in
+      let k = key-of (keyAt image (c .place) 0) (t .1) in
+      record { cell = c; among = h; place = refl; free = t .0; reads = λ base. (_, any-base image (c .place) 0 (k .1) base) }
 
   further : (c : Found) (cs : List Found) (p : ℕ) → Deleted image cs p → Deleted image (c ∷ cs) p
-  further c cs p d = record { cell = d .cell; among = inr (d .among); place = d .place; free = d .free; key = d .key; reads = d .reads }
+  further c cs p d = record { cell = d .cell; among = inr (d .among); place = d .place; free = d .free; reads = d .reads }
 
-  is-deleted : (c : Found) (p : ℕ) → c .place ≡ p → negative (c .size) ≡ false → {k : KeyNode} → keyAt image p ≡ success k → isDeleted image c ≡ true
+  is-deleted : (c : Found) (p : ℕ) → c .place ≡ p → negative (c .size) ≡ false → {k : KeyNode} → keyAt image p 0 ≡ success k → isDeleted image c ≡ true
   unfolding isDeleted
-  is-deleted c p e f g = simp (f, ap (keyAt image) e ∙ g)
+  is-deleted c p e f g = simp (f, ap (λ (q : ℕ). keyAt image q 0) e ∙ g)
 
   listed-only : (cs : List Found) (p : ℕ) → Among p (positionsOf image cs) → Deleted image cs p
   unfolding positionsOf
@@ -96,7 +97,7 @@ module _ (image : List ℕ) where
       go false h = h
 
   pub listed-each : (cs : List Found) (p : ℕ) → Among p (positionsOf image cs) ↔ Deleted image cs p
-  listed-each cs p = (listed-only cs p, λ d. listed-all cs (d .cell) p (d .among) (d .place) (is-deleted (d .cell) p (d .place) (d .free) (d .reads)))
+  listed-each cs p = (listed-only cs p, λ d. listed-all cs (d .cell) p (d .among) (d .place) (is-deleted (d .cell) p (d .place) (d .free) (d .reads 0 .1)))
 
 -- ---- an answer
 

@@ -17,9 +17,9 @@ succeeds (success v) = true
 succeeds (refused t) = false
 
 -- "each free cell" ("a positive one free") "that reads as a key record by document 01": of a cell whose place counts from the start of
--- the image
+-- the image. Whether a record reads does not depend on the base, which is not in the bytes: 0 stands for any (Whole.antt: `reads`).
 unfoldable pub isDeleted : List ℕ → Found → Bool
-isDeleted image c = not (negative (c .size)) && succeeds (keyAt image (c .place))
+isDeleted image c = not (negative (c .size)) && succeeds (keyAt image (c .place) 0)
 
 -- "the image position of each", in the order of the cells; "cells within a free cell aren't searched", as none of them is a cell of the bins
 unfoldable pub positionsOf : List ℕ → List Found → List ℕ

@@ -20,14 +20,13 @@ abbrev pub Among : {A : Type 0} → A → List A → Type 0
 Among x [] = ⊥
 Among x (y ∷ ys) = (x ≡ y) ⊎ Among x ys
 
--- at a position stands one of these cells, it is free, and it reads as a key record by document 01
+-- at a position stands one of these cells, it is free, and it reads as a key record by document 01, with any base
 pub record Deleted (image : List ℕ) (cells : List Found) (position : ℕ) : Type 0 where
   pub cell : Found
   pub among : Among cell cells
   pub place : cell .place ≡ position
   pub free : negative (cell .size) ≡ false
-  pub key : KeyNode
-  pub reads : keyAt image position ≡ success key
+  pub reads : (base : ℕ) → (key : KeyNode) × (keyAt image position base ≡ success key)
 
 -- of an answer with a buffer that held `old` and holds `new`
 module _ (image : List ℕ) (base size : ℕ) (old new : List ℕ) where

@@ -28,14 +28,15 @@ fn refuse(number: u32, position: usize, places: usize) -> DeletedAnswer
     })
 }
 
-// Whether the cell at a position, with its size word, is free and reads as a key record.
+// Whether the cell at a position, with its size word, is free and reads as a key record. No offset of the record is followed, so that it is
+// read with the base 0.
 fn is_deleted(image: &[u8], size: i32, position: usize) -> bool
     ensures { λ r. ⌜ r ≡ isDeleted (now (image .entry)) (record { place = position; size = size }) ⌝ }
 {
     if size < 0 {
         return false;
     }
-    match cell_key_node::read_key_node(image, position) {
+    match cell_key_node::read_key_node(image, position, 0) {
         KeyAnswer::Key(_) => true,
         KeyAnswer::Refused(_) => false,
     }

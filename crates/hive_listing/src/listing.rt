@@ -43,7 +43,7 @@ fn offset_lines(out: &[u32], n: u32) -> bool {
 
 fn list_keys(image: &[u8], root: KeyNode) -> bool {
     let mut out = [0u32; 4096];
-    match cell_key_node::sub_keys_of(image, BASE, root, BUDGET, &mut out) {
+    match key_in_place::sub_keys_of(image, root, BUDGET, &mut out) {
         WalkAnswer::Refused(f) => console::refused(f.number),
         WalkAnswer::Read(c) => keys_line(c) & offset_lines(&out, c.kept),
     }
@@ -54,7 +54,7 @@ fn list_root(image: &[u8], offset: i32) -> bool {
         return console::refused(words::OUTSIDE);
     }
     let position = words::above_zero(offset) as usize + BASE as usize;
-    match cell_key_node::read_key_node(image, position) {
+    match cell_key_node::read_key_node(image, position, BASE) {
         KeyAnswer::Refused(f) => console::refused(f.number),
         KeyAnswer::Key(root) => list_keys(image, root),
     }

@@ -65,7 +65,7 @@ fn stored(list: &[u8], i: u32) {
 fn lookup(image: &[u8], key: KeyNode, name: &[u8]) {
     io::write_all(1, b", ");
     io::write_all(1, name);
-    match cell_key_value::find_value_of(image, BASE, key, name) {
+    match key_in_place::find_value_of(image, key, name) {
         LookupAnswer::Found(found) => {
             place(found.position);
             text(cell_key_value::value_name(image, found.position));
@@ -79,7 +79,7 @@ fn lookup(image: &[u8], key: KeyNode, name: &[u8]) {
 fn sub_key(image: &[u8], list: &[u8], i: u32, offset: u32) {
     let position = offset as usize;
     place(position);
-    match cell_key_node::read_key_node(image, position) {
+    match cell_key_node::read_key_node(image, position, BASE) {
         KeyAnswer::Key(key) => {
             let name = cell_key_node::key_name(image, position);
             text(name);
@@ -114,7 +114,7 @@ fn sub_keys(image: &[u8], key: KeyNode) {
     let mut out = [0u32; 64];
     let at = key.sub_keys_list_offset_relative as usize + BASE as usize;
     let list = words::from(image, at);
-    match cell_key_node::sub_keys_of(image, BASE, key, 1024, &mut out) {
+    match key_in_place::sub_keys_of(image, key, 1024, &mut out) {
         WalkAnswer::Read(counts) => {
             word(counts.kept);
             word(counts.lists);
@@ -136,7 +136,7 @@ fn sub_keys(image: &[u8], key: KeyNode) {
 fn root(image: &[u8]) {
     let at = words::u32_at(image, 36) as usize;
     let position = at + BASE as usize;
-    match cell_key_node::read_key_node(image, position) {
+    match cell_key_node::read_key_node(image, position, BASE) {
         KeyAnswer::Key(key) => {
             text(cell_key_node::key_name(image, position));
             sub_keys(image, key);

@@ -71,7 +71,7 @@ fn data(image: &[u8], minor: u32, value: KeyValue) {
 // Step 7: one value by its name.
 fn lookup(image: &[u8], minor: u32, key: KeyNode, name: &[u8]) {
     say(b"  lookup");
-    match cell_key_value::find_value_of(image, BASE, key, name) {
+    match key_in_place::find_value_of(image, key, name) {
         LookupAnswer::Refused(f) => refused(f.number, f.position),
         LookupAnswer::Found(found) => {
             let position = found.position;
@@ -112,7 +112,7 @@ fn each_value(image: &[u8], out: &[u32], n: u32) {
 // Step 5: the value list of a key, into a lent buffer.
 fn values(image: &[u8], key: KeyNode) {
     let mut out = [0u32; 16];
-    match cell_key_node::value_list_of(image, BASE, key, &mut out) {
+    match key_in_place::value_list_of(image, key, &mut out) {
         ValueListAnswer::Refused(f) => refused(f.number, f.position),
         ValueListAnswer::Listed(n) => each_value(image, &out, n),
     }
@@ -122,7 +122,7 @@ fn values(image: &[u8], key: KeyNode) {
 fn sub_key(image: &[u8], minor: u32, offset: u32) {
     let position = offset as usize;
     say(b" key");
-    match cell_key_node::read_key_node(image, position) {
+    match cell_key_node::read_key_node(image, position, BASE) {
         KeyAnswer::Refused(f) => refused(f.number, f.position),
         KeyAnswer::Key(key) => {
             named(position, cell_key_node::key_name(image, position));
@@ -147,7 +147,7 @@ fn each_sub_key(image: &[u8], minor: u32, out: &[u32], n: u32) {
 // Step 4: the subkeys of a key, into a lent buffer, and how many entries of its lists are left out; the first few are visited.
 fn sub_keys(image: &[u8], minor: u32, key: KeyNode) {
     let mut out = [0u32; 64];
-    match cell_key_node::sub_keys_of(image, BASE, key, BUDGET, &mut out) {
+    match key_in_place::sub_keys_of(image, key, BUDGET, &mut out) {
         WalkAnswer::Refused(f) => refused(f.number, f.position),
         WalkAnswer::Read(c) => {
             number(c.kept as u64);
@@ -161,9 +161,9 @@ fn sub_keys(image: &[u8], minor: u32, key: KeyNode) {
 
 // Step 10: a key into a table of totals, with the number of its subkeys. A call gives the table back, and the next call takes it; what
 // is asked again and again is then the stored total, and nothing is walked for it. Another image has another table.
-fn totals(image: &[u8], position: usize, key: KeyNode) {
+fn totals(image: &[u8], key: KeyNode) {
     say(b" totals");
-    let changed = key_totals::add(key_totals::empty(), image, BASE, position, key, BUDGET);
+    let changed = key_totals::add(key_totals::empty(), image, key, BUDGET);
     let table = changed.table;
     let answer = changed.answer;
     match answer {
@@ -180,7 +180,7 @@ fn totals(image: &[u8], position: usize, key: KeyNode) {
 // permits, or not each in an allocated cell of its own, is refused. What is accepted is what step 4 gave.
 fn strictly(image: &[u8], minor: u32, key: KeyNode) {
     say(b" strictly");
-    match cell_key_node::strict_sub_key_counts_of(image, BASE, key, BUDGET, minor) {
+    match key_in_place::strict_sub_key_counts_of(image, key, BUDGET, minor) {
         WalkAnswer::Refused(f) => refused(f.number, f.position),
         WalkAnswer::Read(c) => {
             number(c.kept as u64);
@@ -279,12 +279,12 @@ fn root(image: &[u8], minor: u32, offset: i32) {
         return;
     }
     let position = words::above_zero(offset) as usize + BASE as usize;
-    match cell_key_node::read_key_node(image, position) {
+    match cell_key_node::read_key_node(image, position, BASE) {
         KeyAnswer::Refused(f) => refused(f.number, f.position),
         KeyAnswer::Key(key) => {
             named(position, cell_key_node::key_name(image, position));
             sub_keys(image, minor, key);
-            totals(image, position, key);
+            totals(image, key);
             strictly(image, minor, key);
             converted(image, key);
         }

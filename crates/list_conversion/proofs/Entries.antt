@@ -75,11 +75,11 @@ module _ (image : List ℕ) (place : ℕ) where
   hash-outside h = simp (le-leb _ _ h)
 
   module _ (h : place < 4294967296) where
-    pub hash-unread : {t : Told} → refused t ≡ keyAt image place → refused t ≡ keyHash image place
+    pub hash-unread : {t : Told} → refused t ≡ keyAt image place 0 → refused t ≡ keyHash image place
     unfolding keyHash thenBy
     hash-unread e = simp (lt-leb _ _ h, ← e)
 
-    pub hash-read : {k : KeyNode} {name : List ℕ} {a : Paper ℕ} → success k ≡ keyAt image place → name ≡ keyName image place
+    pub hash-read : {k : KeyNode} {name : List ℕ} {a : Paper ℕ} → success k ≡ keyAt image place 0 → name ≡ keyName image place
         → a ≡ nameHashOf (k .«key_node_flag_bits») name → a ≡ keyHash image place
     unfolding keyHash thenBy
     hash-read e n q = q ∙ simp (lt-leb _ _ h, ← e, ← n)
@@ -116,11 +116,11 @@ key-hash-small image place {h} e = go (leb 4294967296 place) e
   where
     go : (b : Bool)
         → cond b (refused (by OUTSIDE place))
-        (thenBy (keyAt image place) (λ (k : KeyNode). nameHashOf (k .«key_node_flag_bits») (keyName image place))) ≡ success h
+        (thenBy (keyAt image place 0) (λ (k : KeyNode). nameHashOf (k .«key_node_flag_bits») (keyName image place))) ≡ success h
         → h < 4294967296
     go true q = absurd (refused-success q)
     go false q =
-        let r = then-of (keyAt image place) (λ (k : KeyNode). nameHashOf (k .«key_node_flag_bits») (keyName image place)) q in
+        let r = then-of (keyAt image place 0) (λ (k : KeyNode). nameHashOf (k .«key_node_flag_bits») (keyName image place)) q in
         name-small (r .0 .«key_node_flag_bits») (keyName image place) (r .2)
 
 -- ---- the entries of an `lh` list, one by one

@@ -113,10 +113,10 @@ count-plain kind s p = go (listAt s p) (list-plain s p)
     go (success (index n)) h = plainly-by BAD-SIGN p (omega arith)
     go (refused t) h = plainly-refused (h t refl)
 
-key-plain : (image : List ℕ) (p : ℕ) → Plainly (keyAt image p)
+key-plain : (image : List ℕ) (p : ℕ) → Plainly (keyAt image p 0)
 unfolding keyAt keyFault checked
 key-plain image p =
-    plainly-cond (eqb (faultAt image p 80 0x6B6E 76) 0) (plainly-success (keyOf (drop p image)))
+    plainly-cond (eqb (faultAt image p 80 0x6B6E 76) 0) (plainly-success (keyOf p 0 (drop p image)))
     (plainly-by (faultAt image p 80 0x6B6E 76) p (λ e. let l = exactly image p 80 0x6B6E 76 .no-other in omega arith))
 
 name-plain : (flags : ℕ) (name : List ℕ) → Plainly (nameHashOf flags name)
@@ -129,7 +129,7 @@ hash-plain : (image : List ℕ) (place : ℕ) → Plainly (keyHash image place)
 unfolding keyHash
 hash-plain image place =
     plainly-cond (leb 4294967296 place) (plainly-by OUTSIDE place (omega arith))
-    (then-plain (keyAt image place) _ (key-plain image place) (λ k. name-plain (k .«key_node_flag_bits») (keyName image place)))
+    (then-plain (keyAt image place 0) _ (key-plain image place) (λ k. name-plain (k .«key_node_flag_bits») (keyName image place)))
 
 hashed-plain : (image : List ℕ) (base : ℕ) (os : List ℕ) → Plainly (hashed image base os)
 unfolding hashed

@@ -43,11 +43,12 @@ offsetIn list size i = word32 list (8 + size * i)
 -- ---- the hashes: "each hash worked out from the key record that the entry names"
 
 -- of the key record at a place, which is an entry's offset plus base: "2 for an offset plus base above 32 bits; those of the key record or
--- hash". A refusal tells the position of the record, and 0 for "5 on a hash".
+-- hash". A refusal tells the position of the record, and 0 for "5 on a hash". The record is read
+-- with the base 0, as no offset of it is followed: whether it reads, its flags and its name are the same with any base.
 unfoldable pub keyHash : List ℕ → ℕ → Paper ℕ
 keyHash image place =
     cond (leb 4294967296 place) (refused (by OUTSIDE place))
-    (thenBy (keyAt image place) (λ (k : KeyNode). nameHashOf (k .«key_node_flag_bits») (keyName image place)))
+    (thenBy (keyAt image place 0) (λ (k : KeyNode). nameHashOf (k .«key_node_flag_bits») (keyName image place)))
 
 -- an entry of an `lh` list, as the number that its 8 bytes are: the offset, and the hash behind it
 abbrev pub entry : ℕ → ℕ → ℕ

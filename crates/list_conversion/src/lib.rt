@@ -78,7 +78,7 @@ fn place_of(list: &[u8], i: u16, base: u32) -> usize
     relative + base as usize
 }
 
-// The hash of the name of the key record at a place.
+// The hash of the name of the key record at a place. No offset of the record is followed, so that it is read with the base 0.
 fn key_hash(image: &[u8], place: usize) -> HashAnswer
     ensures { λ r. ⌜ hashPaper r ≡ keyHash (now (image .entry)) place ⌝ }
 {
@@ -88,7 +88,7 @@ fn key_hash(image: &[u8], place: usize) -> HashAnswer
             position: place,
         });
     }
-    match cell_key_node::read_key_node(image, place) {
+    match cell_key_node::read_key_node(image, place, 0) {
         KeyAnswer::Refused(fault) => HashAnswer::Refused(fault),
         KeyAnswer::Key(key) => {
             let name = cell_key_node::key_name(image, place);

@@ -120,7 +120,7 @@ fn put_record(
 // ---- key records
 
 fn key_answer(image: &[u8], at: usize) {
-    match cell_key_node::read_key_node(image, at) {
+    match cell_key_node::read_key_node(image, at, 0) {
         KeyAnswer::Key(key) => {
             io::write_all(1, b" read");
             state(key.allocated);
@@ -188,7 +188,7 @@ fn key_numbers() {
     io::write_all(1, b"key numbers:");
     let image =
         b"\xb0\xff\xff\xffnk\x06\x07\x08\x09\x0a\x0b\x0c\x0d\x0e\x0f\x10\x11\x12\x13\xfe\xff\xff\xff\x18\x19\x1a\x1b\x1c\x1d\x1e\x1f\x20\x21\x22\x23\xfd\xff\xff\xff\x28\x29\x2a\x2b\xfc\xff\xff\xff\x30\x31\x32\x33\x00\x00\x00\x80\x38\x39\x3a\x3b\x3c\x3d\x3e\x3f\x40\x41\x42\x43\x44\x45\x46\x47\x48\x49\x4a\x4b\x00\x00\x4e\x4f";
-    match cell_key_node::read_key_node(image, 0) {
+    match cell_key_node::read_key_node(image, 0, 0) {
         KeyAnswer::Key(key) => {
             key_line_of_numbers(key);
         }
@@ -333,18 +333,30 @@ fn put_value(image: &mut [u8], at: usize, size: u32, name: u16, flags: u16) {
 
 // With base 4, a list of three entries at offset 8: an allocated record `Speed` at 32, a free one with no name and no flag at 64,
 // and an allocated one with the letters C0 and x at 96.
+fn put_list(image: &mut [u8]) {
+    put_32(image, 12, 0xFFFFFFF0);
+    put_32(image, 16, 28);
+    put_32(image, 20, 60);
+    put_32(image, 24, 92);
+}
+
+fn put_speed(image: &mut [u8]) {
+    put_value(image, 32, 0xFFFFFFE0, 5, 1);
+    put_32(image, 56, 0x65657053);
+    put(image, 60, b'd');
+}
+
+fn put_values(image: &mut [u8]) {
+    put_list(image);
+    put_speed(image);
+    put_value(image, 64, 32, 0, 0);
+    put_value(image, 96, 0xFFFFFFE0, 2, 1);
+    put_16(image, 120, 0x78C0);
+}
+
 fn values_image() -> [u8; 128] {
     let mut image = [0u8; 128];
-    put_32(&mut image, 12, 0xFFFFFFF0);
-    put_32(&mut image, 16, 28);
-    put_32(&mut image, 20, 60);
-    put_32(&mut image, 24, 92);
-    put_value(&mut image, 32, 0xFFFFFFE0, 5, 1);
-    put_32(&mut image, 56, 0x65657053);
-    put(&mut image, 60, b'd');
-    put_value(&mut image, 64, 32, 0, 0);
-    put_value(&mut image, 96, 0xFFFFFFE0, 2, 1);
-    put_16(&mut image, 120, 0x78C0);
+    put_values(&mut image);
     image
 }
 
@@ -415,22 +427,28 @@ fn find(base: u32, count: u32, offset: i32) {
     found_line(cell_key_value::find_value(&image, base, count, offset, b"x"));
 }
 
-// ---- from a key record, which has 2 subkeys in the list at 0 and 3 values in the list at 8
+// ---- from a key record
 
-fn record() -> [u8; 80] {
-    let mut image = [0u8; 80];
-    put_32(&mut image, 0, 0xFFFFFFB0);
-    put_16(&mut image, 4, NK);
-    put_32(&mut image, 24, 2);
-    put_32(&mut image, 40, 3);
-    put_32(&mut image, 44, 8);
+// The same image with a key record behind it, at 128, which has 2 subkeys in the list at offset 204 and 3 values in the list at 8.
+fn keyed_image() -> [u8; 224] {
+    let mut image = [0u8; 224];
+    put_values(&mut image);
+    put_32(&mut image, 128, 0xFFFFFFB0);
+    put_16(&mut image, 132, NK);
+    put_32(&mut image, 152, 2);
+    put_32(&mut image, 160, 204);
+    put_32(&mut image, 168, 3);
+    put_32(&mut image, 172, 8);
+    put_32(&mut image, 208, 0xFFFFFFF0);
+    put_32(&mut image, 212, 0x0002696C);
+    put_32(&mut image, 216, 16);
+    put_32(&mut image, 220, 32);
     image
 }
 
-fn values_line(key: KeyNode) {
-    let image = values_image();
+fn values_line(image: &[u8], key: KeyNode) {
     let mut out = [7u32; 3];
-    let answer = cell_key_node::value_list_of(&image, 4, key, &mut out);
+    let answer = key_in_place::value_list_of(image, key, &mut out);
     io::write_all(1, b"values of a record:");
     list_answer(answer);
     places(&out);
@@ -453,28 +471,33 @@ fn walk_answer(answer: WalkAnswer) {
     }
 }
 
-fn sub_keys_line(key: KeyNode) {
-    let image = b"\x00\x00\x00\x00li\x02\x00\x10\x00\x00\x00\x20\x00\x00\x00";
+fn sub_keys_line(image: &[u8], key: KeyNode) {
     let mut out = [7u32; 3];
-    let answer = cell_key_node::sub_keys_of(image, 0, key, 1024, &mut out);
+    let answer = key_in_place::sub_keys_of(image, key, 1024, &mut out);
     io::write_all(1, b"subkeys of a record:");
     walk_answer(answer);
     places(&out);
 }
 
-fn value_of_record_line(key: KeyNode) {
-    let image = values_image();
-    let answer = cell_key_value::find_value_of(&image, 4, key, b"SPEED");
+fn value_of_record_line(image: &[u8], key: KeyNode) {
+    let answer = key_in_place::find_value_of(image, key, b"SPEED");
     io::write_all(1, b"SPEED in a record");
     found_line(answer);
 }
 
+fn lines_of(image: &[u8], key: KeyNode) {
+    values_line(image, key);
+    sub_keys_line(image, key);
+    value_of_record_line(image, key);
+}
+
+// A record in the image that it is of, and then in one that ends before it.
 fn record_lines() {
-    match cell_key_node::read_key_node(&record(), 0) {
+    let image = keyed_image();
+    match cell_key_node::read_key_node(&image, 128, 4) {
         KeyAnswer::Key(key) => {
-            values_line(key);
-            sub_keys_line(key);
-            value_of_record_line(key);
+            lines_of(&image, key);
+            lines_of(&values_image(), key);
         }
         KeyAnswer::Refused(f) => {
             refused(f);

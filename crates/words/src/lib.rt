@@ -49,8 +49,10 @@ pub const ALREADY_IN: u32 = 19;
 
 pub const NOT_PERMITTED: u32 = 20;
 
+pub const OTHER_PLACE: u32 = 21;
+
 // The table whole: each constant is the number that the definitions have under its name.
-fn refusal_numbers() -> [u32; 20]
+fn refusal_numbers() -> [u32; 21]
     ensures { λ r. ⌜ r ≡ numbers ⌝ }
 {
     [
@@ -74,6 +76,7 @@ fn refusal_numbers() -> [u32; 20]
         PAST_END,
         ALREADY_IN,
         NOT_PERMITTED,
+        OTHER_PLACE,
     ]
 }
 

@@ -94,7 +94,10 @@ returns c =
     let c17 = c16 .before in
     let c18 = c17 .before in
     let c19 = c18 .before in
+    let a = c19 .before .before .args in
     λ i. record {
+      position = a .position;
+      base = a .base;
       size = held (c19 .i32-at .ok) (c19 .i32-at .ensures) i;
       allocated = ltZ (held (c19 .i32-at .ok) (c19 .i32-at .ensures) i) (pos 0);
       «key_node_flag_bits» = c18 .u16-at .ensures i;

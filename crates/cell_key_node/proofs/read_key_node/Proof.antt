@@ -35,7 +35,7 @@ returns-2 : tie.Need-returns-2
 unfolding keyAt keyFault
 returns-2 c =
     let a = c .before .before .before .before .before .before .args in
-    ap success (c .key-in .ensures ∙ ap keyOf (c .before .from .ensures .bytes))
+    ap success (c .key-in .ensures ∙ ap (keyOf (a .position) (a .base)) (c .before .from .ensures .bytes))
     ∙ sym (checked-good _ (a .position) _ (passed (a .image .now) (a .position) 80 0x6B6E 76 (c .before .before .before .before .check-record .ensures) (c .before .before .enum-told .given .1)))
 
 pub read-key-node-spec : {M : Type 1} → statement M

@@ -21,11 +21,11 @@ module _ (image : List ℕ) (key : KeyNode) {A : Type 0} where
   elsewhere a e = simp e
 
 -- the code's test, which is turned: `b` is what it found
-found-here : (b : Bool) {c : Bool} → b ≡ c → not b ≡ false → c ≡ true
+pub found-here : (b : Bool) {c : Bool} → b ≡ c → not b ≡ false → c ≡ true
 found-here true e f = sym e
 found-here false e f = absurd (false≢true (sym f))
 
-found-elsewhere : (b : Bool) {c : Bool} → b ≡ c → not b ≡ true → c ≡ false
+pub found-elsewhere : (b : Bool) {c : Bool} → b ≡ c → not b ≡ true → c ≡ false
 found-elsewhere true e f = absurd (false≢true f)
 found-elsewhere false e f = sym e
 

@@ -135,12 +135,7 @@ pub fn strict_sub_keys_of(
 }
 
 // What the strict walk counts, with no regard to room. Nothing is written.
-pub fn strict_sub_key_counts_of(
-    image: &[u8],
-    key: KeyNode,
-    budget: u32,
-    minor: u32,
-) -> WalkAnswer
+pub fn strict_sub_key_counts_of(image: &[u8], key: KeyNode, budget: u32, minor: u32) -> WalkAnswer
     ensures { λ r. ⌜ walkPaper r ≡ strictMeasuredOf (now (image .entry)) key budget minor ⌝ }
 {
     if !is_in_place(image, key) {

@@ -8,7 +8,7 @@ use native.Mathlib.Omega.{arith}
 use borrow.Author.Tests.{ltb-false, leb-true, leb-false}
 use lib.Dec.{ltb, leb}
 use lib.ListN.{length, getD}
-use Rattle.words.specs.Refusals.{NOT-FOUND, ALREADY-IN}
+use Rattle.words.specs.Refusals.{NOT-FOUND, ALREADY-IN, OTHER-PLACE}
 use Rattle.words.specs.Paper.{Told, Paper, success, refused, by}
 use Rattle.words.specs.Buffers.{inRoom}
 use Rattle.words.proofs.Little.{Bytes}
@@ -20,12 +20,15 @@ use Rattle.sub_key_walk.specs.Answers.{fullOf}
 use Rattle.sub_key_walk.proofs.Papers.{paper-read}
 use Rattle.sub_key_walk.proofs.Most.{kept-most}
 use Rattle.cell_key_node.specs.declared.KeyNode.{KeyNode}
+use Rattle.key_in_place.specs.Place.{inPlace}
+use Rattle.key_in_place.proofs.Place.{in-place}
+use Rattle.key_in_place.proofs.Behind.{here}
 use Rattle.key_totals.specs.declared.Place.{Place}
 use Rattle.key_totals.specs.declared.Totals.{Totals}
 use Rattle.key_totals.specs.declared.Changed.{Changed}
 use Rattle.key_totals.specs.declared.KeptAnswer.the-variants.{Kept, Refused}
 use Rattle.key_totals.specs.declared.Wanted.the-variants.{Key}
-use Rattle.key_totals.specs.Table.{PLACES, free, entry, countedIn, suits, laid, Outcome, outcome, refusing, keeping, full, placeOf, freeOf, numberIn, walked, addWalked, addOf, replaceWalked, replaceOf, removeOf, numberOf, keptPaper}
+use Rattle.key_totals.specs.Table.{PLACES, free, entry, countedIn, suits, laid, Outcome, outcome, refusing, keeping, full, placeOf, freeOf, numberIn, walked, addWalked, addHere, addOf, replaceWalked, replaceHere, replaceOf, removeOf, numberOf, keptPaper}
 use Rattle.key_totals.specs.Rows.{one, entriesIn, Entry, Once, Long, Summed, Call, add, replace, remove, named, called, Answers, placeFor, contentOf, lost, won, more, fewer, readAfter, Walked, Gives, Called}
 use Rattle.key_totals.proofs.Places.{same-or-not, first-before, first-is, first-none, first-same}
 use Rattle.key_totals.proofs.Sums.{laid-long, laid-same, laid-other, laid-total, laid-exact, laid-summed}
@@ -34,14 +37,14 @@ use Rattle.key_totals.proofs.Entries.{suits-entry, entry-suits, free-en
 
 -- ---- a call is refused, or it changes one place
 
--- the walk from a call's key record keeps n
-abbrev Counted : List ℕ → ℕ → KeyNode → ℕ → ℕ → Type 0
-Counted s base key budget n = (st : Counts) × (walked s base key budget ≡ success st) × (st .kept ≡ n)
+-- a call's key record stands in the image, and the walk from it keeps n
+abbrev Counted : List ℕ → KeyNode → ℕ → ℕ → Type 0
+Counted s key budget n = (st : Counts) × (walked s key budget ≡ success st) × (st .kept ≡ n) × (inPlace s key ≡ true)
 
 -- where its number comes from, and that a key that is added was not in the table
 abbrev Source : List ℕ → Totals → Call → ℕ → Type 0
-Source s t (add base p key budget) n = (PLACES ≤ placeOf t p) × Counted s base key budget n
-Source s t (replace base p key budget) n = Counted s base key budget n
+Source s t (add key budget) n = (PLACES ≤ placeOf t (key .position)) × Counted s key budget n
+Source s t (replace key budget) n = Counted s key budget n
 Source s t (remove p) n = numberIn t p ≡ n
 
 pub record Change (s : List ℕ) (t : Totals) (c : Call) (n : ℕ) : Type 0 where
@@ -53,34 +56,36 @@ data Came (s : List ℕ) (t : Totals) (c : Call) (o : Outcome) : Type 0 where
   change : (n : ℕ) → o ≡ outcome (laid t (placeFor t c) (contentOf c n)) (success n) → Change s t c n → Came s t c o
 
 module _ (s : List ℕ) (t : Totals) where
-  add-room : (base p : ℕ) (key : KeyNode) (budget : ℕ) (st : Counts) → PLACES ≤ placeOf t p → walked s base key budget ≡ success st
-      → Came s t (add base p key budget) (cond (leb PLACES (freeOf t)) (refusing t full) (keeping t (freeOf t) p (st .kept)))
-  add-room base p key budget st h m = go (leb PLACES (freeOf t)) refl
+  add-room : (key : KeyNode) (budget : ℕ) (st : Counts) → PLACES ≤ placeOf t (key .position) → walked s key budget ≡ success st → inPlace s key ≡ true
+      → Came s t (add key budget) (cond (leb PLACES (freeOf t)) (refusing t full) (keeping t (freeOf t) (key .position) (st .kept)))
+  add-room key budget st h m x = go (leb PLACES (freeOf t)) refl
     where
       go : (b : Bool) → leb PLACES (freeOf t) ≡ b
-          → Came s t (add base p key budget) (cond b (refusing t full) (keeping t (freeOf t) p (st .kept)))
+          → Came s t (add key budget) (cond b (refusing t full) (keeping t (freeOf t) (key .position) (st .kept)))
       go true q = refusal full refl
-      go false q = change (st .kept) refl (record { inside = leb-false _ _ q; source = (h, (st, m, refl)) })
+      go false q = change (st .kept) refl (record { inside = leb-false _ _ q; source = (h, (st, m, refl, x)) })
 
-  came-add : (base p : ℕ) (key : KeyNode) (budget : ℕ) → Came s t (add base p key budget) (addOf t s base p key budget)
-  unfolding addOf
-  came-add base p key budget = go (ltb (placeOf t p) PLACES) refl (walked s base key budget) refl
+  came-add : (key : KeyNode) (budget : ℕ) → Came s t (add key budget) (addOf t s key budget)
+  unfolding addOf addHere
+  came-add key budget = go (inPlace s key) refl (ltb (placeOf t (key .position)) PLACES) refl (walked s key budget) refl
     where
-      go : (b : Bool) → ltb (placeOf t p) PLACES ≡ b → (w : Paper Counts) → walked s base key budget ≡ w
-          → Came s t (add base p key budget) (cond b (refusing t (by ALREADY-IN 0)) (addWalked t p w))
-      go true q w m = refusal (by ALREADY-IN 0) refl
-      go false q (refused u) m = refusal u refl
-      go false q (success st) m = add-room base p key budget st (ltb-false _ _ q) m
+      go : (a : Bool) → inPlace s key ≡ a → (b : Bool) → ltb (placeOf t (key .position)) PLACES ≡ b → (w : Paper Counts) → walked s key budget ≡ w
+          → Came s t (add key budget) (cond a (cond b (refusing t (by ALREADY-IN 0)) (addWalked t (key .position) w)) (refusing t (by OTHER-PLACE 0)))
+      go false x b q w m = refusal (by OTHER-PLACE 0) refl
+      go true x true q w m = refusal (by ALREADY-IN 0) refl
+      go true x false q (refused u) m = refusal u refl
+      go true x false q (success st) m = add-room key budget st (ltb-false _ _ q) m x
 
-  came-replace : (base p : ℕ) (key : KeyNode) (budget : ℕ) → Came s t (replace base p key budget) (replaceOf t s base p key budget)
-  unfolding replaceOf
-  came-replace base p key budget = go (leb PLACES (placeOf t p)) refl (walked s base key budget) refl
+  came-replace : (key : KeyNode) (budget : ℕ) → Came s t (replace key budget) (replaceOf t s key budget)
+  unfolding replaceOf replaceHere
+  came-replace key budget = go (inPlace s key) refl (leb PLACES (placeOf t (key .position))) refl (walked s key budget) refl
     where
-      go : (b : Bool) → leb PLACES (placeOf t p) ≡ b → (w : Paper Counts) → walked s base key budget ≡ w
-          → Came s t (replace base p key budget) (cond b (refusing t (by NOT-FOUND 0)) (replaceWalked t p w))
-      go true q w m = refusal (by NOT-FOUND 0) refl
-      go false q (refused u) m = refusal u refl
-      go false q (success st) m = change (st .kept) refl (record { inside = leb-false _ _ q; source = (st, m, refl) })
+      go : (a : Bool) → inPlace s key ≡ a → (b : Bool) → leb PLACES (placeOf t (key .position)) ≡ b → (w : Paper Counts) → walked s key budget ≡ w
+          → Came s t (replace key budget) (cond a (cond b (refusing t (by NOT-FOUND 0)) (replaceWalked t (key .position) w)) (refusing t (by OTHER-PLACE 0)))
+      go false x b q w m = refusal (by OTHER-PLACE 0) refl
+      go true x true q w m = refusal (by NOT-FOUND 0) refl
+      go true x false q (refused u) m = refusal u refl
+      go true x false q (success st) m = change (st .kept) refl (record { inside = leb-false _ _ q; source = (st, m, refl, x) })
 
   came-remove : (p : ℕ) → Came s t (remove p) (removeOf t p)
   unfolding removeOf
@@ -92,8 +97,8 @@ module _ (s : List ℕ) (t : Totals) where
       go false q = change (numberIn t p) refl (record { inside = leb-false _ _ q; source = refl })
 
   came : (c : Call) → Came s t c (called s t c)
-  came (add base p key budget) = came-add base p key budget
-  came (replace base p key budget) = came-replace base p key budget
+  came (add key budget) = came-add key budget
+  came (replace key budget) = came-replace key budget
   came (remove p) = came-remove p
 
   -- of an answer: it was refused and the table is as it was, or it gave a number and changed one place
@@ -135,49 +140,50 @@ module _ (s : List ℕ) (t : Totals) where
 module _ (s : List ℕ) (t : Totals) (l : Long t) where
   -- what the place has in the total, and in the number of entries
   was-counted : (c : Call) (n : ℕ) → Change s t c n → countedIn (getD (t .places) (placeFor t c) free) ≡ lost t c
-  was-counted (add base p key budget) n h = ap (λ (b : Bool). cond b (getD (t .places) (freeOf t) free .kept) 0) (free-taken t l (h .inside))
-  was-counted (replace base p key budget) n h = ap countedIn (place-entry t l p (h .inside))
+  was-counted (add key budget) n h = ap (λ (b : Bool). cond b (getD (t .places) (freeOf t) free .kept) 0) (free-taken t l (h .inside))
+  was-counted (replace key budget) n h = ap countedIn (place-entry t l (key .position) (h .inside))
   was-counted (remove p) n h = ap countedIn (place-entry t l p (h .inside))
 
   was-one : (c : Call) (n : ℕ) → Change s t c n → one (getD (t .places) (placeFor t c) free) + more c ≡ one (contentOf c n) + fewer c
-  was-one (add base p key budget) n h = ap (λ (b : Bool). cond b 1 0 + 1) (free-taken t l (h .inside))
-  was-one (replace base p key budget) n h = ap (λ (e : Place). one e + 0) (place-entry t l p (h .inside))
+  was-one (add key budget) n h = ap (λ (b : Bool). cond b 1 0 + 1) (free-taken t l (h .inside))
+  was-one (replace key budget) n h = ap (λ (e : Place). one e + 0) (place-entry t l (key .position) (h .inside))
   was-one (remove p) n h = ap (λ (e : Place). one e + 0) (place-entry t l p (h .inside))
 
   is-counted : (c : Call) (n : ℕ) → countedIn (contentOf c n) ≡ won c n
-  is-counted (add base p key budget) n = refl
-  is-counted (replace base p key budget) n = refl
+  is-counted (add key budget) n = refl
+  is-counted (replace key budget) n = refl
   is-counted (remove p) n = refl
 
   -- no other key stood there, and no other stands there then
   was-no-other : (c : Call) (n : ℕ) → Change s t c n → (p m : ℕ) → (p ≡ named c → ⊥) → Entry t (placeFor t c) p m → ⊥
-  was-no-other (add base q key budget) n h p m d e = free-entry (getD (t .places) (freeOf t) free) p m (free-taken t l (h .inside)) e
-  was-no-other (replace base q key budget) n h p m d e = d (same-position (sym e ∙ place-entry t l q (h .inside)))
+  was-no-other (add key budget) n h p m d e = free-entry (getD (t .places) (freeOf t) free) p m (free-taken t l (h .inside)) e
+  was-no-other (replace key budget) n h p m d e = d (same-position (sym e ∙ place-entry t l (key .position) (h .inside)))
   was-no-other (remove q) n h p m d e = d (same-position (sym e ∙ place-entry t l q (h .inside)))
 
   is-no-other : (c : Call) (n p m : ℕ) → (p ≡ named c → ⊥) → contentOf c n ≡ entry p m → ⊥
-  is-no-other (add base q key budget) n p m d e = d (sym (same-position e))
-  is-no-other (replace base q key budget) n p m d e = d (sym (same-position e))
+  is-no-other (add key budget) n p m d e = d (sym (same-position e))
+  is-no-other (replace key budget) n p m d e = d (sym (same-position e))
   is-no-other (remove q) n p m d e = free-entry free p m refl e
 
   -- its number has 32 bits
-  counted-small : Bytes s → (base : ℕ) (key : KeyNode) (budget n : ℕ) → Counted s base key budget n → n < 2 ^ 32
-  counted-small b base key budget n w =
-      let k = kept-most s b base (key .«number_of_sub_keys») (key .«sub_keys_list_offset_relative») budget (w .0) (w .1) in
+  counted-small : Bytes s → (key : KeyNode) (budget n : ℕ) → Counted s key budget n → n < 2 ^ 32
+  counted-small b key budget n w =
+      let k = kept-most s b (key .base) (key .«number_of_sub_keys») (key .«sub_keys_list_offset_relative») budget (w .0) (w .1) in
       let e : w .0 .kept ≡ n = w .2 in
       omega arith
 
   is-small : Bytes s → (c : Call) (n : ℕ) → Change s t c n → contentOf c n .kept < 2 ^ 32
-  is-small b (add base p key budget) n h = counted-small b base key budget n (h .source .1)
-  is-small b (replace base p key budget) n h = counted-small b base key budget n (h .source)
+  is-small b (add key budget) n h = counted-small b key budget n (h .source .1)
+  is-small b (replace key budget) n h = counted-small b key budget n (h .source)
   is-small b (remove p) n h = omega arith
 
   -- a key that is added stood nowhere, and one that is replaced in no other place
   alone-at : (c : Call) (n : ℕ) → Change s t c n → Once t → (i p m k : ℕ) → (i ≡ placeFor t c → ⊥) → contentOf c n ≡ entry p k → Entry t i p m → ⊥
-  alone-at (add base q key budget) n h o i p m k d e f =
-      nowhere t l q (h .source .0) i m (subst (λ (x : ℕ). Entry t i x m) (sym (same-position e)) f)
-  alone-at (replace base q key budget) n h o i p m k d e f =
-      d (o i (placeOf t q) q m (numberIn t q) (subst (λ (x : ℕ). Entry t i x m) (sym (same-position e)) f) (place-entry t l q (h .inside)))
+  alone-at (add key budget) n h o i p m k d e f =
+      nowhere t l (key .position) (h .source .0) i m (subst (λ (x : ℕ). Entry t i x m) (sym (same-position e)) f)
+  alone-at (replace key budget) n h o i p m k d e f =
+      d (o i (placeOf t (key .position)) (key .position) m (numberIn t (key .position)) (subst (λ (x : ℕ). Entry t i x m) (sym (same-position e)) f)
+      (place-entry t l (key .position) (h .inside)))
   alone-at (remove q) n h o i p m k d e f = free-entry free p k refl e
 
   -- the place of a key that is laid there, where it stood in none before it
@@ -210,11 +216,11 @@ module _ (s : List ℕ) (t : Totals) (l : Long t) where
       none-there k g x = here-or-there k (same-or-not k i) x
 
   reads-at : (c : Call) (n : ℕ) → Change s t c n → Once t → numberOf (laid t (placeFor t c) (contentOf c n)) (named c) ≡ readAfter c n
-  reads-at (add base p key budget) n h o =
+  reads-at (add key budget) n h o =
       let k : freeOf t < PLACES = h .inside in
-      let m : PLACES ≤ placeOf t p = h .source .0 in
-      laid-reads p n (freeOf t) k (omega arith)
-  reads-at (replace base p key budget) n h o = laid-reads p n (placeOf t p) (h .inside) (omega arith)
+      let m : PLACES ≤ placeOf t (key .position) = h .source .0 in
+      laid-reads (key .position) n (freeOf t) k (omega arith)
+  reads-at (replace key budget) n h o = laid-reads (key .position) n (placeOf t (key .position)) (h .inside) (omega arith)
   reads-at (remove p) n h o = gone p (placeOf t p) (h .inside) o (place-entry t l p (h .inside))
 
   -- ---- the table then
@@ -308,23 +314,25 @@ module _ (s : List ℕ) (t : Totals) (l : Long t) where
 
 -- ---- where a number comes from
 
-walked-own : (s : List ℕ) (base : ℕ) (key : KeyNode) (budget n : ℕ) → Counted s base key budget n → Walked s base key budget n
-walked-own s base key budget n w =
+walked-own : (s : List ℕ) (key : KeyNode) (budget n : ℕ) → Counted s key budget n → Walked s key budget n
+walked-own s key budget n w =
     record {
+      stands = in-place s key .0 (w .3);
       counts = w .0;
       kept = w .2;
       roomy = λ room h. ap (inRoom fullOf room) (w .1) ∙ room-fits fullOf room (w .0) (rw (w .2) h);
       tight = λ room h. ap (inRoom fullOf room) (w .1) ∙ room-full fullOf room (w .0) (rw (w .2) h);
       same = λ old new x y h.
-          paper-read x (w .0) (y .answer ∙ ap (inRoom fullOf (length old)) (w .1) ∙ room-fits fullOf (length old) (w .0) (rw (w .2) h));
+          paper-read x (w .0)
+          (y .answer ∙ here s key _ (w .3) ∙ ap (inRoom fullOf (length old)) (w .1) ∙ room-fits fullOf (length old) (w .0) (rw (w .2) h));
     }
 
 number-in : (s : List ℕ) (t : Totals) (p n : ℕ) → Change s t (remove p) n → numberOf t p ≡ success n
 number-in s t p n h = sym (number-there t p refl (h .inside)) ∙ ap success (h .source)
 
 pub gives-at : (s : List ℕ) (t : Totals) (c : Call) (n : ℕ) → Change s t c n → Gives s t c n
-gives-at s t (add base p key budget) n h = walked-own s base key budget n (h .source .1)
-gives-at s t (replace base p key budget) n h = walked-own s base key budget n (h .source)
+gives-at s t (add key budget) n h = walked-own s key budget n (h .source .1)
+gives-at s t (replace key budget) n h = walked-own s key budget n (h .source)
 gives-at s t (remove p) n h = number-in s t p n h
 
 -- ---- one call, of any answer

@@ -56,10 +56,10 @@ Owned s Q t = (i p n : ℕ) → Entry t i p n → (c : Call) × Q c × (named c 
 module _ (s : List ℕ) (b : Bytes s) (Q : Call → Type 0) where
   -- what a call laid is its own
   own-laid : (t : Totals) (c : Call) (n : ℕ) → Change s t c n → Q c → (p m : ℕ) → contentOf c n ≡ entry p m → (d : Call) × Q d × (named d ≡ p) × Own s d m
-  own-laid t (add base q key budget) n h w p m e =
-      (add base q key budget, w, same-position e, subst (λ (k : ℕ). Own s (add base q key budget) k) (same-number e) (gives-at s t (add base q key budget) n h))
-  own-laid t (replace base q key budget) n h w p m e =
-      (replace base q key budget, w, same-position e, subst (λ (k : ℕ). Own s (replace base q key budget) k) (same-number e) (gives-at s t (replace base q key budget) n h))
+  own-laid t (add key budget) n h w p m e =
+      (add key budget, w, same-position e, subst (λ (k : ℕ). Own s (add key budget) k) (same-number e) (gives-at s t (add key budget) n h))
+  own-laid t (replace key budget) n h w p m e =
+      (replace key budget, w, same-position e, subst (λ (k : ℕ). Own s (replace key budget) k) (same-number e) (gives-at s t (replace key budget) n h))
   own-laid t (remove q) n h w p m e = absurd (free-entry free p m refl e)
 
   own-next : (t : Totals) (m : Summed t) (c : Call) (n : ℕ) → Change s t c n → Q c → Owned s Q t → Owned s Q (laid t (placeFor t c) (contentOf c n))

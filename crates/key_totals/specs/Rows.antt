@@ -13,8 +13,10 @@ use Rattle.sub_key_walk.specs.declared.Counts.{Counts}
 use Rattle.sub_key_walk.specs.declared.WalkRefusal.{WalkRefusal}
 use Rattle.sub_key_walk.specs.declared.WalkAnswer.{WalkAnswer}
 use Rattle.sub_key_walk.specs.declared.WalkAnswer.the-variants.{Read}
-use Rattle.sub_key_walk.specs.Answers.{answerOf, fullOf, WalkAnswered}
+use Rattle.sub_key_walk.specs.Answers.{answerOf, fullOf}
 use Rattle.cell_key_node.specs.declared.KeyNode.{KeyNode}
+use Rattle.key_in_place.specs.Place.{ReadsAs}
+use Rattle.key_in_place.specs.Answers.{WalkAnsweredOf}
 use Rattle.key_totals.specs.declared.Place.{Place}
 use Rattle.key_totals.specs.declared.Totals.{Totals}
 use Rattle.key_totals.specs.declared.KeptAnswer.the-variants.{Kept, Refused}
@@ -63,22 +65,22 @@ pub record Summed (t : Totals) : Type 0 where
 
 -- ---- calls
 
--- a call with what it is lent beside the table and the image: the base, the position, the key record and the budget
+-- a call with what it is lent beside the table and the image: the key record and the budget, or a position
 pub data Call : Type 0 where
-  add : ℕ → ℕ → KeyNode → ℕ → Call
-  replace : ℕ → ℕ → KeyNode → ℕ → Call
+  add : KeyNode → ℕ → Call
+  replace : KeyNode → ℕ → Call
   remove : ℕ → Call
 
 -- the position that it names
 abbrev pub named : Call → ℕ
-named (add base p key budget) = p
-named (replace base p key budget) = p
+named (add key budget) = key .position
+named (replace key budget) = key .position
 named (remove p) = p
 
 -- what its promise says of a table
 abbrev pub called : List ℕ → Totals → Call → Outcome
-called s t (add base p key budget) = addOf t s base p key budget
-called s t (replace base p key budget) = replaceOf t s base p key budget
+called s t (add key budget) = addOf t s key budget
+called s t (replace key budget) = replaceOf t s key budget
 called s t (remove p) = removeOf t p
 
 -- r is what the call answers
@@ -103,41 +105,41 @@ In c (d ∷ ds) = (c ≡ d) ⊎ In c ds
 
 -- the one place that it changes, and what stands there then
 abbrev pub placeFor : Totals → Call → ℕ
-placeFor t (add base p key budget) = freeOf t
-placeFor t (replace base p key budget) = placeOf t p
+placeFor t (add key budget) = freeOf t
+placeFor t (replace key budget) = placeOf t (key .position)
 placeFor t (remove p) = placeOf t p
 
 abbrev pub contentOf : Call → ℕ → Place
-contentOf (add base p key budget) n = entry p n
-contentOf (replace base p key budget) n = entry p n
+contentOf (add key budget) n = entry (key .position) n
+contentOf (replace key budget) n = entry (key .position) n
 contentOf (remove p) n = free
 
 -- what the total loses, and what it gets
 abbrev pub lost : Totals → Call → ℕ
-lost t (add base p key budget) = 0
-lost t (replace base p key budget) = numberIn t p
+lost t (add key budget) = 0
+lost t (replace key budget) = numberIn t (key .position)
 lost t (remove p) = numberIn t p
 
 abbrev pub won : Call → ℕ → ℕ
-won (add base p key budget) n = n
-won (replace base p key budget) n = n
+won (add key budget) n = n
+won (replace key budget) n = n
 won (remove p) n = 0
 
 -- by how many entries the table grows, and by how many it shrinks
 abbrev pub more : Call → ℕ
-more (add base p key budget) = 1
-more (replace base p key budget) = 0
+more (add key budget) = 1
+more (replace key budget) = 0
 more (remove p) = 0
 
 abbrev pub fewer : Call → ℕ
-fewer (add base p key budget) = 0
-fewer (replace base p key budget) = 0
+fewer (add key budget) = 0
+fewer (replace key budget) = 0
 fewer (remove p) = 1
 
 -- what reading the key that it named then answers
 abbrev pub readAfter : Call → ℕ → Paper ℕ
-readAfter (add base p key budget) n = success n
-readAfter (replace base p key budget) n = success n
+readAfter (add key budget) n = success n
+readAfter (replace key budget) n = success n
 readAfter (remove p) n = refused (by NOT-FOUND 0)
 
 -- what reading the key at p answers behind a call, where it answered h before, and behind a row of calls: what the last one that named
@@ -152,27 +154,28 @@ heldAfter s t (c ∷ cs) p h = heldAfter s (called s t c .table) cs p (heldBy c 
 
 -- ---- the walk's own number
 
--- the walk from a key record keeps n offsets
-pub record Walked (s : List ℕ) (base : ℕ) (key : KeyNode) (budget n : ℕ) : Type 0 where
+-- a key record stands in the image, and the walk from it keeps n offsets
+pub record Walked (s : List ℕ) (key : KeyNode) (budget n : ℕ) : Type 0 where
+  pub stands : ReadsAs s key
   pub counts : Counts
   pub kept : counts .kept ≡ n
   -- with room for them it succeeds, and with less it is refused by 9 with n places needed
-  pub roomy : (room : ℕ) → n ≤ room → answerOf s base (key .«number_of_sub_keys») (key .«sub_keys_list_offset_relative») budget room ≡ success counts
-  pub tight : (room : ℕ) → room < n → answerOf s base (key .«number_of_sub_keys») (key .«sub_keys_list_offset_relative») budget room ≡ refused (fullOf counts)
+  pub roomy : (room : ℕ) → n ≤ room → answerOf s (key .base) (key .«number_of_sub_keys») (key .«sub_keys_list_offset_relative») budget room ≡ success counts
+  pub tight : (room : ℕ) → room < n
+      → answerOf s (key .base) (key .«number_of_sub_keys») (key .«sub_keys_list_offset_relative») budget room ≡ refused (fullOf counts)
   -- and so does any answer that the promise of `sub_keys_of` allows
-  pub same : (old new : List ℕ) (w : WalkAnswer)
-      → WalkAnswered s base (key .«number_of_sub_keys») (key .«sub_keys_list_offset_relative») budget old w new → n ≤ length old → w ≡ Read counts
+  pub same : (old new : List ℕ) (w : WalkAnswer) → WalkAnsweredOf s key budget old w new → n ≤ length old → w ≡ Read counts
 
 -- a call that adds or replaces, and whose walk keeps n
 abbrev pub Own : List ℕ → Call → ℕ → Type 0
-Own s (add base p key budget) n = Walked s base key budget n
-Own s (replace base p key budget) n = Walked s base key budget n
+Own s (add key budget) n = Walked s key budget n
+Own s (replace key budget) n = Walked s key budget n
 Own s (remove p) n = ⊥
 
 -- where a call's number comes from: the walk, or the entry that is removed
 abbrev pub Gives : List ℕ → Totals → Call → ℕ → Type 0
-Gives s t (add base p key budget) n = Walked s base key budget n
-Gives s t (replace base p key budget) n = Walked s base key budget n
+Gives s t (add key budget) n = Walked s key budget n
+Gives s t (replace key budget) n = Walked s key budget n
 Gives s t (remove p) n = numberOf t p ≡ success n
 
 -- ---- one call on any table

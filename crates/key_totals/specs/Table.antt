@@ -1,14 +1,16 @@
--- Document 02, order 7: "Keep a table of key position (lent with the key record) and kept number, with the grand total stored."
+-- Document 02, order 7: "Keep a table of key position (lent with the key record) and kept number, with the grand total stored." Order 11:
+-- "The table of order 7 stores the position from it", the key record.
 use Prim.Native.Nat.{ℕ, suc, _+_, _-_, _%_, _^_}
 use mathlib.Core.List.{List, [], _∷_}
 use mathlib.Core.Bool.{Bool, true, false, cond, not, _&&_}
 use lib.ListN.{replicate, set, getD}
 use lib.Dec.{ltb, leb, eqb}
-use Rattle.words.specs.Refusals.{NOT-FOUND, ALREADY-IN}
+use Rattle.words.specs.Refusals.{NOT-FOUND, ALREADY-IN, OTHER-PLACE}
 use Rattle.words.specs.Paper.{Told, Paper, success, refused, by, noRoom}
 use Rattle.sub_key_walk.specs.declared.Counts.{Counts}
 use Rattle.sub_key_walk.specs.Answers.{measured, walkTold}
 use Rattle.cell_key_node.specs.declared.KeyNode.{KeyNode}
+use Rattle.key_in_place.specs.Place.{inPlace}
 use Rattle.key_totals.specs.declared.Place.{Place}
 use Rattle.key_totals.specs.declared.Totals.{Totals}
 use Rattle.key_totals.specs.declared.KeptAnswer.{KeptAnswer}
@@ -84,9 +86,13 @@ placeOf t p = firstOf (suits (Key p)) (t .places)
 abbrev pub freeOf : Totals → ℕ
 freeOf t = firstOf (suits Free) (t .places)
 
--- "the walk's refusals without 9", and the number that the walk keeps
-abbrev pub walked : List ℕ → ℕ → KeyNode → ℕ → Paper Counts
-walked s base key budget = measured s base (key .«number_of_sub_keys») (key .«sub_keys_list_offset_relative») budget
+-- "21 OTHER PLACE, before all others, where the bytes at that position do not read as this same record": a call behind that check
+abbrev pub onlyHere : Totals → List ℕ → KeyNode → Outcome → Outcome
+onlyHere t s key o = cond (inPlace s key) o (refusing t (by OTHER-PLACE 0))
+
+-- "the walk's refusals without 9", and the number that the walk keeps; the base is the record's
+abbrev pub walked : List ℕ → KeyNode → ℕ → Paper Counts
+walked s key budget = measured s (key .base) (key .«number_of_sub_keys») (key .«sub_keys_list_offset_relative») budget
 
 -- "9, with 257 places needed", every other field 0
 abbrev pub full : Told
@@ -98,16 +104,24 @@ abbrev pub addWalked : Totals → ℕ → Paper Counts → Outcome
 addWalked t p (refused u) = refusing t u
 addWalked t p (success c) = cond (leb PLACES (freeOf t)) (refusing t full) (keeping t (freeOf t) p (c .kept))
 
-unfoldable pub addOf : Totals → List ℕ → ℕ → ℕ → KeyNode → ℕ → Outcome
-addOf t s base p key budget = cond (ltb (placeOf t p) PLACES) (refusing t (by ALREADY-IN 0)) (addWalked t p (walked s base key budget))
+unfoldable pub addHere : Totals → List ℕ → KeyNode → ℕ → Outcome
+addHere t s key budget =
+    cond (ltb (placeOf t (key .position)) PLACES) (refusing t (by ALREADY-IN 0)) (addWalked t (key .position) (walked s key budget))
+
+unfoldable pub addOf : Totals → List ℕ → KeyNode → ℕ → Outcome
+addOf t s key budget = onlyHere t s key (addHere t s key budget)
 
 -- "or 16 on replacing and removing"; "on .. replacing the walk's refusals without 9"
 abbrev pub replaceWalked : Totals → ℕ → Paper Counts → Outcome
 replaceWalked t p (refused u) = refusing t u
 replaceWalked t p (success c) = keeping t (placeOf t p) p (c .kept)
 
-unfoldable pub replaceOf : Totals → List ℕ → ℕ → ℕ → KeyNode → ℕ → Outcome
-replaceOf t s base p key budget = cond (leb PLACES (placeOf t p)) (refusing t (by NOT-FOUND 0)) (replaceWalked t p (walked s base key budget))
+unfoldable pub replaceHere : Totals → List ℕ → KeyNode → ℕ → Outcome
+replaceHere t s key budget =
+    cond (leb PLACES (placeOf t (key .position))) (refusing t (by NOT-FOUND 0)) (replaceWalked t (key .position) (walked s key budget))
+
+unfoldable pub replaceOf : Totals → List ℕ → KeyNode → ℕ → Outcome
+replaceOf t s key budget = onlyHere t s key (replaceHere t s key budget)
 
 -- the number in the place of a key
 abbrev pub numberIn : Totals → ℕ → ℕ

@@ -6,8 +6,8 @@ use sub_key_walk::WalkRefusal;
 ghost use mathlib.Core.Path.{_≡_};
 ghost use Prim.Native.Nat.{_<_};
 ghost use Rattle.words.specs.Paper.{tell};
-ghost use Rattle.sub_key_walk.specs.Answers.{walkTold};
-ghost use Rattle.key_totals.specs.Table.{PLACES, free, none, suits, firstOf, countedIn, laid, refusing, keeping, addOf, replaceOf, removeOf, numberOf, keptPaper, changedPaper};
+ghost use Rattle.sub_key_walk.specs.Answers.{walkTold, walkPaper};
+ghost use Rattle.key_totals.specs.Table.{PLACES, free, none, suits, firstOf, countedIn, laid, refusing, keeping, walked, addHere, addOf, replaceHere, replaceOf, removeOf, numberOf, keptPaper, changedPaper};
 
 // The places of a table.
 const PLACES: usize = 256;
@@ -155,21 +155,25 @@ fn keep(table: Totals, at: usize, position: usize, kept: u32) -> Changed
     }
 }
 
-// A key that is not in the table yet, with the number that the walk from its record keeps.
-pub fn add(
-    table: Totals,
-    image: &[u8],
-    base: u32,
-    position: usize,
-    key: KeyNode,
-    budget: u32,
-) -> Changed
-    ensures { λ r. ⌜ changedPaper r ≡ addOf table (now (image .entry)) base position key budget ⌝ }
+// What the walk from a key record that stands in the image counts.
+fn walk_counts(image: &[u8], key: KeyNode, budget: u32) -> WalkAnswer
+    ensures { λ r. ⌜ walkPaper r ≡ walked (now (image .entry)) key budget ⌝ }
 {
+    let base = key.base;
+    let count = key.number_of_sub_keys;
+    let list = key.sub_keys_list_offset_relative;
+    sub_key_walk::sub_key_counts(image, base, count, list, budget)
+}
+
+// A key that stands in the image and is not in the table yet, with the number that the walk from its record keeps.
+fn add_here(table: Totals, image: &[u8], key: KeyNode, budget: u32) -> Changed
+    ensures { λ r. ⌜ changedPaper r ≡ addHere table (now (image .entry)) key budget ⌝ }
+{
+    let position = key.position;
     if first(table, Wanted::Key(position)) < PLACES {
         return refuse(table, told(words::ALREADY_IN, 0));
     }
-    match cell_key_node::sub_key_counts_of(image, base, key, budget) {
+    match walk_counts(image, key, budget) {
         WalkAnswer::Refused(fault) => refuse(table, fault),
         WalkAnswer::Read(counts) => {
             let at = first(table, Wanted::Free);
@@ -181,25 +185,39 @@ pub fn add(
     }
 }
 
-// A key that is in the table, with the number that the walk from its record keeps now.
-pub fn replace(
-    table: Totals,
-    image: &[u8],
-    base: u32,
-    position: usize,
-    key: KeyNode,
-    budget: u32,
-) -> Changed
-    ensures { λ r. ⌜ changedPaper r ≡ replaceOf table (now (image .entry)) base position key budget ⌝ }
+// A key that is not in the table yet. A record that does not stand in the image is refused before all else.
+pub fn add(table: Totals, image: &[u8], key: KeyNode, budget: u32) -> Changed
+    ensures { λ r. ⌜ changedPaper r ≡ addOf table (now (image .entry)) key budget ⌝ }
 {
+    if !key_in_place::is_in_place(image, key) {
+        return refuse(table, told(words::OTHER_PLACE, 0));
+    }
+    add_here(table, image, key, budget)
+}
+
+// A key that stands in the image and is in the table, with the number that the walk from its record keeps now.
+fn replace_here(table: Totals, image: &[u8], key: KeyNode, budget: u32) -> Changed
+    ensures { λ r. ⌜ changedPaper r ≡ replaceHere table (now (image .entry)) key budget ⌝ }
+{
+    let position = key.position;
     let at = first(table, Wanted::Key(position));
     if PLACES <= at {
         return refuse(table, told(words::NOT_FOUND, 0));
     }
-    match cell_key_node::sub_key_counts_of(image, base, key, budget) {
+    match walk_counts(image, key, budget) {
         WalkAnswer::Refused(fault) => refuse(table, fault),
         WalkAnswer::Read(counts) => keep(table, at, position, counts.kept),
     }
+}
+
+// A key that is in the table. A record that does not stand in the image is refused before all else.
+pub fn replace(table: Totals, image: &[u8], key: KeyNode, budget: u32) -> Changed
+    ensures { λ r. ⌜ changedPaper r ≡ replaceOf table (now (image .entry)) key budget ⌝ }
+{
+    if !key_in_place::is_in_place(image, key) {
+        return refuse(table, told(words::OTHER_PLACE, 0));
+    }
+    replace_here(table, image, key, budget)
 }
 
 // A key is taken out, and its place is free. The number that it had.

@@ -1,12 +1,12 @@
 use mathlib.Core.Path.{ap, _∙_}
 use Rattle.key_totals.specs.Table.{refusing}
-use Rattle.key_totals.proofs.Calls.{add-there, add-refused, add-full, add-kept}
+use Rattle.key_totals.proofs.Calls.{add-elsewhere, add-in-place}
 use borrow.Author.Needs.{needs}
 use Rattle.key_totals.proofs.add.Statement.{statement}
 use Rattle.key_totals.proofs.add.Tie as tie
 
-first-requires : tie.Need-first-requires
-first-requires c κs = search needs
+is-in-place-requires : tie.Need-is-in-place-requires
+is-in-place-requires c κs = search needs
 
 told-requires : tie.Need-told-requires
 told-requires c κs = search needs
@@ -19,70 +19,23 @@ returns c =
     let a = c .before .before .before .before .before .args in
     c .refuse .ensures
     ∙ ap (refusing (a .table)) (c .before .told .ensures)
-    ∙ add-there (a .table) (a .position) (c .before .before .before .first .ensures) (a .image .now) (a .base) (a .key) (a .budget) (c .before .before .if1 .taken)
+    ∙ add-elsewhere (a .table) (a .image .now) (a .key) (a .budget) _ (c .before .before .before .is-in-place .ensures) (c .before .before .if1 .taken)
 
-sub-key-counts-of-requires : tie.Need-sub-key-counts-of-requires
-sub-key-counts-of-requires c κs = search needs
-
-enum-known-fault : tie.Need-enum-known-fault
-enum-known-fault c = search needs
-
-refuse-requires-2 : tie.Need-refuse-requires-2
-refuse-requires-2 c κs = search needs
-
-enum-known-counts : tie.Need-enum-known-counts
-enum-known-counts c = search needs
-
-first-requires-2 : tie.Need-first-requires-2
-first-requires-2 c κs = search needs
-
-told-requires-2 : tie.Need-told-requires-2
-told-requires-2 c κs = search needs
-
-refuse-requires-3 : tie.Need-refuse-requires-3
-refuse-requires-3 c κs = search needs
+add-here-requires : tie.Need-add-here-requires
+add-here-requires c κs = search needs
 
 returns-2 : tie.Need-returns-2
 returns-2 c =
-    let a = c .before .before .before .before .before .before .before .before .before .before .before .args in
-    c .refuse3 .ensures
-    ∙ ap (refusing (a .table)) (c .before .told2 .ensures)
-    ∙ add-full (a .table) (a .position) (c .before .before .before .before .before .before .before .before .before .first .ensures) (a .image .now) (a .base) (a .key) (a .budget) (c .before .before .before .before .before .before .before .sub-key-counts-of .ensures) (c .before .before .before .before .before .before .before .before .if1 .left)
-    (c .before .before .before .before .before .counts .given .1) (c .before .before .before .first2 .ensures) (c .before .before .if2 .taken)
-
-keep-requires : tie.Need-keep-requires
-keep-requires c κs = search needs
-
-returns-3 : tie.Need-returns-3
-returns-3 c =
-    let a = c .before .before .before .before .before .before .before .before .args in
-    c .refuse2 .ensures
-    ∙ add-refused (a .table) (a .position) (c .before .before .before .before .before .before .first .ensures) (a .image .now) (a .base) (a .key) (a .budget) (c .before .before .before .before .sub-key-counts-of .ensures) (c .before .before .before .before .before .if1 .left)
-    (c .before .before .fault .given .1)
-
-returns-4 : tie.Need-returns-4
-returns-4 c =
-    let a = c .before .before .before .before .before .before .before .before .before .before .args in
-    c .keep .ensures
-    ∙ add-kept (a .table) (a .position) (c .before .before .before .before .before .before .before .before .first .ensures) (a .image .now) (a .base) (a .key) (a .budget) (c .before .before .before .before .before .before .sub-key-counts-of .ensures) (c .before .before .before .before .before .before .before .if1 .left)
-    (c .before .before .before .before .counts .given .1) (c .before .before .first2 .ensures) (c .before .if2 .left)
+    let a = c .before .before .before .before .args in
+    c .add-here .ensures ∙ add-in-place (a .table) (a .image .now) (a .key) (a .budget) _ (c .before .before .is-in-place .ensures) (c .before .if1 .left)
 
 pub add-spec : {M : Type 1} → statement M
 add-spec =
     tie.close
     (tie.spec
-    first-requires
+    is-in-place-requires
     told-requires
     refuse-requires
     returns
-    sub-key-counts-of-requires
-    enum-known-fault
-    refuse-requires-2
-    enum-known-counts
-    first-requires-2
-    told-requires-2
-    refuse-requires-3
-    returns-2
-    keep-requires
-    returns-3
-    returns-4)
+    add-here-requires
+    returns-2)

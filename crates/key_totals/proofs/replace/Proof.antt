@@ -1,12 +1,12 @@
 use mathlib.Core.Path.{ap, _∙_}
 use Rattle.key_totals.specs.Table.{refusing}
-use Rattle.key_totals.proofs.Calls.{replace-nowhere, replace-refused, replace-kept}
+use Rattle.key_totals.proofs.Calls.{replace-elsewhere, replace-in-place}
 use borrow.Author.Needs.{needs}
 use Rattle.key_totals.proofs.replace.Statement.{statement}
 use Rattle.key_totals.proofs.replace.Tie as tie
 
-first-requires : tie.Need-first-requires
-first-requires c κs = search needs
+is-in-place-requires : tie.Need-is-in-place-requires
+is-in-place-requires c κs = search needs
 
 told-requires : tie.Need-told-requires
 told-requires c κs = search needs
@@ -19,49 +19,23 @@ returns c =
     let a = c .before .before .before .before .before .args in
     c .refuse .ensures
     ∙ ap (refusing (a .table)) (c .before .told .ensures)
-    ∙ replace-nowhere (a .table) (a .position) (c .before .before .before .first .ensures) (a .image .now) (a .base) (a .key) (a .budget) (c .before .before .if1 .taken)
+    ∙ replace-elsewhere (a .table) (a .image .now) (a .key) (a .budget) _ (c .before .before .before .is-in-place .ensures) (c .before .before .if1 .taken)
 
-sub-key-counts-of-requires : tie.Need-sub-key-counts-of-requires
-sub-key-counts-of-requires c κs = search needs
-
-enum-known-fault : tie.Need-enum-known-fault
-enum-known-fault c = search needs
-
-refuse-requires-2 : tie.Need-refuse-requires-2
-refuse-requires-2 c κs = search needs
-
-enum-known-counts : tie.Need-enum-known-counts
-enum-known-counts c = search needs
-
-keep-requires : tie.Need-keep-requires
-keep-requires c κs = search needs
+replace-here-requires : tie.Need-replace-here-requires
+replace-here-requires c κs = search needs
 
 returns-2 : tie.Need-returns-2
 returns-2 c =
-    let a = c .before .before .before .before .before .before .before .before .args in
-    c .refuse2 .ensures
-    ∙ replace-refused (a .table) (a .position) (c .before .before .before .before .before .before .first .ensures) (a .image .now) (a .base) (a .key) (a .budget) (c .before .before .before .before .sub-key-counts-of .ensures) (c .before .before .before .before .before .if1 .left)
-    (c .before .before .fault .given .1)
-
-returns-3 : tie.Need-returns-3
-returns-3 c =
-    let a = c .before .before .before .before .before .before .before .before .args in
-    c .keep .ensures
-    ∙ replace-kept (a .table) (a .position) (c .before .before .before .before .before .before .first .ensures) (a .image .now) (a .base) (a .key) (a .budget) (c .before .before .before .before .sub-key-counts-of .ensures) (c .before .before .before .before .before .if1 .left)
-    (c .before .before .counts .given .1)
+    let a = c .before .before .before .before .args in
+    c .replace-here .ensures ∙ replace-in-place (a .table) (a .image .now) (a .key) (a .budget) _ (c .before .before .is-in-place .ensures) (c .before .if1 .left)
 
 pub replace-spec : {M : Type 1} → statement M
 replace-spec =
     tie.close
     (tie.spec
-    first-requires
+    is-in-place-requires
     told-requires
     refuse-requires
     returns
-    sub-key-counts-of-requires
-    enum-known-fault
-    refuse-requires-2
-    enum-known-counts
-    keep-requires
-    returns-2
-    returns-3)
+    replace-here-requires
+    returns-2)

@@ -1,2 +1,4 @@
 pub mod Place
 pub mod Answers
+pub mod Demands
+pub mod Examples

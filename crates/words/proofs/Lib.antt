@@ -3,5 +3,6 @@ pub mod Little
 pub mod Signed
 pub mod Parts
 pub mod Papers
+pub mod Every
 pub mod Plain
 pub mod Buffers

@@ -92,26 +92,26 @@ fn no_walk() -> WalkAnswer
 pub fn sub_keys_of(image: &[u8], key: KeyNode, budget: u32, out: &mut [u32]) -> WalkAnswer
     ensures { λ r. ⌜ WalkAnsweredOf (now (image .entry)) key budget (now (out .entry)) r (now (out .exit)) ⌝ }
 {
-    if !is_in_place(image, key) {
+    let stands = is_in_place(image, key);
+    if !stands {
         return no_walk();
     }
-    let base = key.base;
     let count = key.number_of_sub_keys;
     let list = key.sub_keys_list_offset_relative;
-    sub_key_walk::sub_keys(image, base, count, list, budget, out)
+    sub_key_walk::sub_keys(image, key.base, count, list, budget, out)
 }
 
 // What that walk counts, with no regard to room: the places that its offsets need among it. Nothing is written.
 pub fn sub_key_counts_of(image: &[u8], key: KeyNode, budget: u32) -> WalkAnswer
     ensures { λ r. ⌜ walkPaper r ≡ measuredOf (now (image .entry)) key budget ⌝ }
 {
-    if !is_in_place(image, key) {
+    let there = is_in_place(image, key);
+    if !there {
         return no_walk();
     }
-    let base = key.base;
     let subkeys = key.number_of_sub_keys;
     let first = key.sub_keys_list_offset_relative;
-    sub_key_walk::sub_key_counts(image, base, subkeys, first, budget)
+    sub_key_walk::sub_key_counts(image, key.base, subkeys, first, budget)
 }
 
 // The subkeys of a key record with each list read strictly: only what the minor version permits, each list inside an allocated cell of
@@ -125,57 +125,57 @@ pub fn strict_sub_keys_of(
 ) -> WalkAnswer
     ensures { λ r. ⌜ StrictAnsweredOf (now (image .entry)) key budget minor (now (out .entry)) r (now (out .exit)) ⌝ }
 {
-    if !is_in_place(image, key) {
+    let placed = is_in_place(image, key);
+    if !placed {
         return no_walk();
     }
-    let base = key.base;
     let number = key.number_of_sub_keys;
     let start = key.sub_keys_list_offset_relative;
-    sub_key_walk::strict_sub_keys(image, base, number, start, budget, minor, out)
+    sub_key_walk::strict_sub_keys(image, key.base, number, start, budget, minor, out)
 }
 
 // What the strict walk counts, with no regard to room. Nothing is written.
 pub fn strict_sub_key_counts_of(image: &[u8], key: KeyNode, budget: u32, minor: u32) -> WalkAnswer
     ensures { λ r. ⌜ walkPaper r ≡ strictMeasuredOf (now (image .entry)) key budget minor ⌝ }
 {
-    if !is_in_place(image, key) {
+    let held = is_in_place(image, key);
+    if !held {
         return no_walk();
     }
-    let base = key.base;
     let keys = key.number_of_sub_keys;
     let top = key.sub_keys_list_offset_relative;
-    sub_key_walk::strict_sub_key_counts(image, base, keys, top, budget, minor)
+    sub_key_walk::strict_sub_key_counts(image, key.base, keys, top, budget, minor)
 }
 
 // The value list of a key record: the entries as stored into `out`. A refusal changes no place of it.
 pub fn value_list_of(image: &[u8], key: KeyNode, out: &mut [u32]) -> ValueListAnswer
     ensures { λ r. ⌜ ListAnsweredOf (now (image .entry)) key (now (out .entry)) r (now (out .exit)) ⌝ }
 {
-    if !is_in_place(image, key) {
+    let same = is_in_place(image, key);
+    if !same {
         return ValueListAnswer::Refused(RoomRefusal {
             number: words::OTHER_PLACE,
             position: 0,
             places: 0,
         });
     }
-    let base = key.base;
     let values = key.number_of_key_values;
     let offset = key.key_values_list_offset_relative;
-    cell_key_node::value_list(image, base, values, offset, out)
+    cell_key_node::value_list(image, key.base, values, offset, out)
 }
 
 // The value of a name in a key record's value list.
 pub fn find_value_of(image: &[u8], key: KeyNode, name: &[u8]) -> LookupAnswer
     ensures { λ r. ⌜ lookupPaper r ≡ foundOf (now (image .entry)) key (now (name .entry)) ⌝ }
 {
-    if !is_in_place(image, key) {
+    let ours = is_in_place(image, key);
+    if !ours {
         return LookupAnswer::Refused(Refusal {
             number: words::OTHER_PLACE,
             position: 0,
         });
     }
-    let base = key.base;
     let entries = key.number_of_key_values;
     let relative = key.key_values_list_offset_relative;
-    cell_key_value::find_value(image, base, entries, relative, name)
+    cell_key_value::find_value(image, key.base, entries, relative, name)
 }

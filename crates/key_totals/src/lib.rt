@@ -5,7 +5,8 @@ use sub_key_walk::WalkAnswer;
 use sub_key_walk::WalkRefusal;
 ghost use mathlib.Core.Path.{_≡_};
 ghost use Prim.Native.Nat.{_<_};
-ghost use Rattle.words.specs.Paper.{tell};
+ghost use Rattle.words.specs.Refusals.{OTHER-PLACE};
+ghost use Rattle.words.specs.Paper.{tell, by};
 ghost use Rattle.sub_key_walk.specs.Answers.{walkTold, walkPaper};
 ghost use Rattle.key_totals.specs.Table.{PLACES, free, none, suits, firstOf, countedIn, laid, refusing, keeping, walked, addHere, addOf, replaceHere, replaceOf, removeOf, numberOf, keptPaper, changedPaper};
 
@@ -139,6 +140,13 @@ fn refuse(table: Totals, refusal: WalkRefusal) -> Changed
     }
 }
 
+// A call that is refused because its key record does not stand in the image.
+fn elsewhere(table: Totals) -> Changed
+    ensures { λ r. ⌜ changedPaper r ≡ refusing table (by OTHER-PLACE 0) ⌝ }
+{
+    refuse(table, told(words::OTHER_PLACE, 0))
+}
+
 // The number of the key at a position, in a place.
 fn keep(table: Totals, at: usize, position: usize, kept: u32) -> Changed
     requires { ⌜ at < PLACES ⌝ }
@@ -159,10 +167,9 @@ fn keep(table: Totals, at: usize, position: usize, kept: u32) -> Changed
 fn walk_counts(image: &[u8], key: KeyNode, budget: u32) -> WalkAnswer
     ensures { λ r. ⌜ walkPaper r ≡ walked (now (image .entry)) key budget ⌝ }
 {
-    let base = key.base;
     let count = key.number_of_sub_keys;
     let list = key.sub_keys_list_offset_relative;
-    sub_key_walk::sub_key_counts(image, base, count, list, budget)
+    sub_key_walk::sub_key_counts(image, key.base, count, list, budget)
 }
 
 // A key that stands in the image and is not in the table yet, with the number that the walk from its record keeps.
@@ -189,8 +196,9 @@ fn add_here(table: Totals, image: &[u8], key: KeyNode, budget: u32) -> Changed
 pub fn add(table: Totals, image: &[u8], key: KeyNode, budget: u32) -> Changed
     ensures { λ r. ⌜ changedPaper r ≡ addOf table (now (image .entry)) key budget ⌝ }
 {
-    if !key_in_place::is_in_place(image, key) {
-        return refuse(table, told(words::OTHER_PLACE, 0));
+    let stands = key_in_place::is_in_place(image, key);
+    if !stands {
+        return elsewhere(table);
     }
     add_here(table, image, key, budget)
 }
@@ -199,14 +207,14 @@ pub fn add(table: Totals, image: &[u8], key: KeyNode, budget: u32) -> Changed
 fn replace_here(table: Totals, image: &[u8], key: KeyNode, budget: u32) -> Changed
     ensures { λ r. ⌜ changedPaper r ≡ replaceHere table (now (image .entry)) key budget ⌝ }
 {
-    let position = key.position;
-    let at = first(table, Wanted::Key(position));
+    let place = key.position;
+    let at = first(table, Wanted::Key(place));
     if PLACES <= at {
         return refuse(table, told(words::NOT_FOUND, 0));
     }
     match walk_counts(image, key, budget) {
         WalkAnswer::Refused(fault) => refuse(table, fault),
-        WalkAnswer::Read(counts) => keep(table, at, position, counts.kept),
+        WalkAnswer::Read(counts) => keep(table, at, place, counts.kept),
     }
 }
 
@@ -214,8 +222,9 @@ fn replace_here(table: Totals, image: &[u8], key: KeyNode, budget: u32) -> Chang
 pub fn replace(table: Totals, image: &[u8], key: KeyNode, budget: u32) -> Changed
     ensures { λ r. ⌜ changedPaper r ≡ replaceOf table (now (image .entry)) key budget ⌝ }
 {
-    if !key_in_place::is_in_place(image, key) {
-        return refuse(table, told(words::OTHER_PLACE, 0));
+    let there = key_in_place::is_in_place(image, key);
+    if !there {
+        return elsewhere(table);
     }
     replace_here(table, image, key, budget)
 }

@@ -1,5 +1,4 @@
-use mathlib.Core.Path.{ap, _∙_}
-use Rattle.key_totals.specs.Table.{refusing}
+use mathlib.Core.Path.{_∙_}
 use Rattle.key_totals.proofs.Calls.{add-elsewhere, add-in-place}
 use borrow.Author.Needs.{needs}
 use Rattle.key_totals.proofs.add.Statement.{statement}
@@ -8,18 +7,13 @@ use Rattle.key_totals.proofs.add.Tie as tie
 is-in-place-requires : tie.Need-is-in-place-requires
 is-in-place-requires c κs = search needs
 
-told-requires : tie.Need-told-requires
-told-requires c κs = search needs
-
-refuse-requires : tie.Need-refuse-requires
-refuse-requires c κs = search needs
+elsewhere-requires : tie.Need-elsewhere-requires
+elsewhere-requires c κs = search needs
 
 returns : tie.Need-returns
 returns c =
-    let a = c .before .before .before .before .before .args in
-    c .refuse .ensures
-    ∙ ap (refusing (a .table)) (c .before .told .ensures)
-    ∙ add-elsewhere (a .table) (a .image .now) (a .key) (a .budget) _ (c .before .before .before .is-in-place .ensures) (c .before .before .if1 .taken)
+    let a = c .before .before .before .before .args in
+    c .elsewhere .ensures ∙ add-elsewhere (a .table) (a .image .now) (a .key) (a .budget) _ (c .before .before .is-in-place .ensures) (c .before .if1 .taken)
 
 add-here-requires : tie.Need-add-here-requires
 add-here-requires c κs = search needs
@@ -34,8 +28,7 @@ add-spec =
     tie.close
     (tie.spec
     is-in-place-requires
-    told-requires
-    refuse-requires
+    elsewhere-requires
     returns
     add-here-requires
     returns-2)

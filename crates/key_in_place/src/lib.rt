@@ -151,6 +151,7 @@ pub fn strict_sub_key_counts_of(image: &[u8], key: KeyNode, budget: u32, minor: 
 pub fn value_list_of(image: &[u8], key: KeyNode, out: &mut [u32]) -> ValueListAnswer
     ensures { λ r. ⌜ ListAnsweredOf (now (image .entry)) key (now (out .entry)) r (now (out .exit)) ⌝ }
 {
+    let values = key.number_of_key_values;
     let same = is_in_place(image, key);
     if !same {
         return ValueListAnswer::Refused(RoomRefusal {
@@ -159,7 +160,6 @@ pub fn value_list_of(image: &[u8], key: KeyNode, out: &mut [u32]) -> ValueListAn
             places: 0,
         });
     }
-    let values = key.number_of_key_values;
     let offset = key.key_values_list_offset_relative;
     cell_key_node::value_list(image, key.base, values, offset, out)
 }

@@ -7,6 +7,7 @@ and not from the Rattle (but for `SoFar`, a record that is the project's own).
 reads a stream of cases and writes one whole line for each (compare/README.md). Each test stands in the order of the paper's
 sentences, which are quoted."""
 import bisect
+import collections
 import functools
 import itertools
 import operator
@@ -15,8 +16,8 @@ import sys
 # "Refusal numbers"
 SHORT, OUTSIDE, BAD_SIZE, BAD_SIGN, BAD_NAME, NO_LIST, TOO_MANY, CUT_SHORT, NO_ROOM, BAD_BIN, BAD_CELL = range(1, 12)
 TOO_LARGE, BAD_BUDGET, TOO_DEEP, OUT_OF_STEPS, NOT_FOUND = range(12, 17)
-# document 02, orders 1, 6, 7 and 9
-BAD_DATA, PAST_END, ALREADY_IN, NOT_PERMITTED = 17, 18, 19, 20
+# document 02, orders 1, 6, 7, 9 and 11
+BAD_DATA, PAST_END, ALREADY_IN, NOT_PERMITTED, OTHER_PLACE = 17, 18, 19, 20, 21
 
 MOST_COUNT = 1_048_576
 MOST_BUDGET = 65_536
@@ -123,7 +124,8 @@ def record(image, position, fixed, sign, length_at):
     return size, length
 
 
-def key_record(image, p):
+def key_numbers(image, p):
+    """A key record's numbers, the magnitude of its size, and the length of its name."""
     # "size 0 (signed), "nk" 4, flags 6, time 8 (8 bytes), access 16, parent 20 (signed), subkeys 24, volatile subkeys 28, subkey
     # list 32, volatile list 36 (signed), values 40, value list 44 (signed), security 48, class 52 (signed), four largest sizes 56
     # to 68, work 72, name length 76 and class length 78 (16 bits each), name 80."
@@ -131,8 +133,12 @@ def key_record(image, p):
     u = lambda at, width=4: unsigned(image, p + at, width)
     s = lambda at: signed(image, p + at)
     # "A negative size means allocated, a positive one free; both read."
-    fields = [s(0), int(s(0) < 0), u(6, 2), u(8, 8), u(16), s(20), u(24), u(28), u(32), s(36), u(40), s(44), u(48), s(52),
-              u(56), u(60), u(64), u(68), u(72), u(76, 2), u(78, 2)]
+    return [s(0), int(s(0) < 0), u(6, 2), u(8, 8), u(16), s(20), u(24), u(28), u(32), s(36), u(40), s(44), u(48), s(52),
+            u(56), u(60), u(64), u(68), u(72), u(76, 2), u(78, 2)], size, length
+
+
+def key_record(image, p):
+    fields, size, length = key_numbers(image, p)
     # "The name and the slack (from the name's end to the cell's end) are handed back as parts of the caller's image"
     return fields + [hexed(image[p + 80:p + 80 + length])] + summed(image[p + 80 + length:p + size])
 
@@ -331,6 +337,55 @@ def walk(image, count, offset, base, budget, out, read=ordinary):
     # "On success the output is written from the first place on"
     out[:len(kept)] = kept
     return kept, lists, entries, dropped
+
+
+# ---- document 02, order 11: "A record that knows its place"
+
+# "The key record is to carry its position and base": these two, and the numbers of document 01 in their order, the size with whether it
+# means allocated
+Key = collections.namedtuple("Key", "position base size allocated flags time access parent subkeys volatile_subkeys subkey_list "
+                             "volatile_list values value_list security class_at largest_1 largest_2 largest_3 largest_4 work name_length class_length")
+
+
+def key_at(image, position, base):
+    return Key(position, base, *key_numbers(image, position)[0])
+
+
+def is_in_place(image, key):
+    """Whether the bytes at the record's position read, with its base, "as this same record": its every number. The name and the slack
+    are no numbers of it."""
+    try:
+        return key_at(image, key.position, key.base) == key
+    except Refused:
+        return False
+
+
+def in_place(image, key):
+    # "new, 21 OTHER PLACE, before all others, where the bytes at that position do not read as this same record"; position 0: "every
+    # number above 16"
+    if not is_in_place(image, key):
+        raise Refused(OTHER_PLACE)
+
+
+# "walk and value list take the base from it"
+def sub_keys_of(image, key, budget, out, read=ordinary):
+    in_place(image, key)
+    return walk(image, key.subkeys, key.subkey_list, key.base, budget, out, read)
+
+
+def sub_key_counts_of(image, key, budget, read=ordinary):
+    in_place(image, key)
+    return walked(image, key.subkeys, key.subkey_list, key.base, budget, read)
+
+
+def value_list_of(image, key, out):
+    in_place(image, key)
+    return value_list(image, key.values, key.value_list, key.base, out)
+
+
+def find_value_of(image, key, name):
+    in_place(image, key)
+    return lookup(image, key.values, key.value_list, key.base, name)
 
 
 # ---- "Bins and cells"
@@ -629,7 +684,8 @@ def one_part(words, name, part):
 # ---- document 02, order 7: "Totals beside the keys"
 
 class Table:
-    """ "Keep a table of key position (lent with the key record) and kept number, with the grand total stored." A place has whether it is
+    """ "Keep a table of key position (lent with the key record) and kept number, with the grand total stored." Order 11: "The table of
+    order 7 stores the position from it", from the record. A place has whether it is
     taken, the position and the number. A table may be written by hand too, and then be one that no call makes. What 02 leaves open is the
     project's own: of the free places the first is taken, of two with one position the first is meant, and the total has 64 bits. """
 
@@ -656,24 +712,28 @@ class Table:
             raise Refused(NOT_FOUND)
         return at
 
-    def add(self, position, walk_from):
+    def add(self, image, key, kept_by):
+        # order 11: 21 "before all others"
+        in_place(image, key)
         # "Refusals, in order: 19 ALREADY IN on adding"
-        if self.place_of(position) is not None:
+        if self.place_of(key.position) is not None:
             raise Refused(ALREADY_IN)
         # "on adding and replacing the walk's refusals without 9"
-        kept = walk_from()
+        kept = kept_by(key)
         # "on adding 9, with 257 places needed, when all 256 are taken"
         free = [i for i, (taken, _, _) in enumerate(self.places) if not taken]
         if not free:
             raise Refused(NO_ROOM, places=257)
         # "freed places are used again"
-        self.lay(free[0], (True, position, kept), kept)
+        self.lay(free[0], (True, key.position, kept), kept)
         return kept
 
-    def replace(self, position, walk_from):
-        at = self.found(position)
-        kept = walk_from()
-        self.lay(at, (True, position, kept), kept - self.places[at][2])
+    def replace(self, image, key, kept_by):
+        # order 11: 21 "before all others"
+        in_place(image, key)
+        at = self.found(key.position)
+        kept = kept_by(key)
+        self.lay(at, (True, key.position, kept), kept - self.places[at][2])
         return kept
 
     def remove(self, position):
@@ -685,23 +745,27 @@ class Table:
     def kept_of(self, position):
         return self.places[self.found(position)][2]
 
+    def told(self):
+        return [sum(taken for taken, _, _ in self.places), self.total] + summed([int(x) for place in self.places for x in place])
+
+
+def made_up(position, base, count, offset):
+    """The key record of kinds 0 and 1 (compare/README.md): one that can stand in an image, and need not."""
+    return Key(position, base, -88, 1, 4002, 4003, 4004, 4005, count, 4006, offset, 4007, 4008, 4009, 4010, 4011, 4012, 4013, 4014, 4015, 4016, 5, 4018)
+
 
 def one_call(table, kind, position, k, base, budget, count, offset, walks, image):
     """What a call answers, at the k-th position; None where no call is made."""
-    if kind in (8, 9):
-        # "lent with the key record": its own count and list
-        key = key_record(image, position)
-        kind, count, offset = kind - 8, key[6], key[8]
+    def kept_by(key):
+        by = key.subkeys, key.subkey_list, key.base, budget
+        if by not in walks:
+            walks[by] = len(walked(image, *by)[0])
+        return walks[by]
 
-    def walk_from():
-        if (count, offset, base, budget) not in walks:
-            walks[count, offset, base, budget] = len(walked(image, count, offset, base, budget)[0])
-        return walks[count, offset, base, budget]
-
-    if kind == 0:
-        return table.add(position, walk_from)
-    if kind == 1:
-        return table.replace(position, walk_from)
+    if kind in (0, 1, 8, 9):
+        # "lent with the key record"
+        key = key_at(image, position, base) if kind > 1 else made_up(position, base, count, offset)
+        return table.add(image, key, kept_by) if kind in (0, 8) else table.replace(image, key, kept_by)
     if kind == 2:
         return table.remove(position)
     if kind == 3:
@@ -723,10 +787,12 @@ def calls_made(name, image):
     table, walks, calls = Table(), {}, []
     for at in range(0, len(name) - 31, 32):
         kind, times, low, high, base, budget, count, offset = (unsigned(name, at + 4 * i, 4) for i in range(8))
+        # how far the positions of a call lie apart: a record that is made up has its list in this word
+        step = offset if kind > 1 and offset > 0 else 1
         for k in range(times):
             before = list(table.places), table.total
             try:
-                answer = one_call(table, kind, (low + 2 ** 32 * high + k) % 2 ** 64, k, base, budget, count, offset, walks, image)
+                answer = one_call(table, kind, (low + 2 ** 32 * high + k * step) % 2 ** 64, k, base, budget, count, offset, walks, image)
                 if answer is not None:
                     calls.append((kind, ["ok", answer], table.total))
             except Refused as r:
@@ -742,8 +808,57 @@ def row_of_calls(name, image):
     if len(calls) <= FEW:
         for _, told, _ in calls:
             line += ["call", *told]
-    return (line + [sum(taken for taken, _, _ in table.places), table.total]
-            + summed([int(x) for place in table.places for x in place]))
+    return line + table.told()
+
+
+# ---- order 11 again: a record given with an image, and a record's own place
+
+def given(name):
+    """The record that a name holds (compare/README.md), and the text behind it; what the name lacks is 0."""
+    head = name[:96].ljust(96, b"\0")
+    u = lambda at, width=4: unsigned(head, 16 + at, width)
+    s = lambda at: signed(head, 16 + at)
+    return Key(unsigned(head, 0, 8), unsigned(head, 8, 4), s(0), int(unsigned(head, 12, 4) != 0), u(6, 2), u(8, 8), u(16), s(20), u(24), u(28), u(32), s(36),
+               u(40), s(44), u(48), s(52), u(56), u(60), u(64), u(68), u(72), u(76, 2), u(78, 2)), name[96:]
+
+
+def on_a_table(image, key, adding, filled, budget):
+    """An entry added to a table, or replaced in it, and the table after it: empty, or its first place with the record's position and a number."""
+    table = Table()
+    if filled % 2 == 1:
+        table.by_hand, table.places[0], table.total = True, (True, key.position, filled), filled
+    before = list(table.places), table.total
+    kept_by = lambda key: len(walked(image, key.subkeys, key.subkey_list, key.base, budget)[0])
+    try:
+        told = ["ok", table.add(image, key, kept_by) if adding else table.replace(image, key, kept_by)]
+    except Refused as r:
+        # "A refused call changes nothing."
+        assert (table.places, table.total) == before
+        told = r.told()
+    return told + table.told()
+
+
+def with_a_record(minor, function, filled, budget, room, name, image):
+    key, text = given(name)
+    if function in (1, 3):
+        return told_walk(room, lambda out: sub_keys_of(image, key, budget, out, ordinary if function == 1 else strict(minor)))
+    if function in (2, 4):
+        return told_counts(lambda: sub_key_counts_of(image, key, budget, ordinary if function == 2 else strict(minor)))
+    if function == 5:
+        return told_values(room, lambda out: value_list_of(image, key, out))
+    if function == 6:
+        return told_lookup(lambda: find_value_of(image, key, text))
+    if function in (7, 8):
+        return on_a_table(image, key, function == 7, filled, budget)
+    return ["ok", int(is_in_place(image, key))]
+
+
+def place_told(image, position, base):
+    try:
+        key = key_at(image, position, base)
+    except Refused as r:
+        return ["refused", r.number, r.position]
+    return ["ok", key.position, key.base, int(is_in_place(image, key))]
 
 
 # ---- "Name hash"
@@ -1005,24 +1120,55 @@ def whole_value(image, position):
     return fields + [hexed(name)]
 
 
-def by_record(tag, a, b, c, d, e, name, image):
-    """The walk, what it counts, the value list and the lookup from the key record at a position: its own counts and offsets."""
+def told_values(room, listed):
+    """A value list's answer, and what it leaves of a buffer of so many places."""
+    out = pattern[:room]
     try:
-        key = key_record(image, a)
+        entries = listed(out)
+        return ["ok", len(entries)] + sums(entries) + [untouched(out, len(entries))]
+    except Refused as r:
+        return ["refused", r.number, r.position, r.places, untouched(out, 0)]
+
+
+def told_walk(room, walk_into):
+    """A walk's, likewise."""
+    out = pattern[:room]
+    try:
+        kept, lists, entries, dropped = walk_into(out)
+        return ["ok", len(kept), lists, entries, dropped] + sums(kept) + [untouched(out, len(kept))]
+    except Refused as r:
+        return r.told() + [untouched(out, 0)]
+
+
+def told_counts(counts):
+    try:
+        kept, lists, entries, dropped = counts()
+        return ["ok", len(kept), lists, entries, dropped]
+    except Refused as r:
+        return r.told()
+
+
+def told_lookup(found):
+    try:
+        return ["ok"] + found()
     except Refused as r:
         return ["refused", r.number, r.position]
-    subkeys, subkey_list, values, value_list_at = key[6], key[8], key[10], key[11] % 2 ** 32
+
+
+def by_record(tag, a, b, c, d, e, name, image):
+    """The walk, what it counts, the value list and the lookup from the key record at a position, read with a base."""
+    try:
+        key = key_at(image, a, c)
+    except Refused as r:
+        return ["refused", r.number, r.position]
+    read = strict(b) if tag in STRICT else ordinary
     if tag == 13:
-        return answer(4, values, value_list_at, c, d, e, name, image)
-    if tag == 14:
-        return answer(5, subkeys, subkey_list, c, d, e, name, image)
-    if tag == 20:
-        return answer(17, subkeys, subkey_list, c, d, e, name, image)
-    if tag == 31:
-        return answer(30, subkeys, subkey_list, c, d, e, b.to_bytes(4, "little"), image)
-    if tag == 34:
-        return answer(33, subkeys, subkey_list, c, d, b, name, image)
-    return answer(8, values, value_list_at, c, d, e, name, image)
+        return told_values(d, lambda out: value_list_of(image, key, out))
+    if tag in (14, 31):
+        return told_walk(e, lambda out: sub_keys_of(image, key, d, out, read))
+    if tag in (20, 34):
+        return told_counts(lambda: sub_key_counts_of(image, key, d, read))
+    return told_lookup(lambda: find_value_of(image, key, name))
 
 
 # the tags of order 9, each with that of the ordinary reading, whose words stand in the same places
@@ -1066,19 +1212,11 @@ def answer_of(tag, a, b, c, d, e, name, image):
         told = [said + whole_buffer(out) for said, out in there_and_back(image, a + 2 ** 32 * b, c, d == 1, e)]
         return told[0] + [x for again in told[1:] for x in ["back"] + again]
     if tag == 4:
-        out = pattern[:d]
-        try:
-            entries = value_list(image, a, as_signed(b), c, out)
-            return ["ok", len(entries)] + sums(entries) + [untouched(out, len(entries))]
-        except Refused as r:
-            return ["refused", r.number, r.position, r.places, untouched(out, 0)]
+        return told_values(d, lambda out: value_list(image, a, as_signed(b), c, out))
     if tag in (5, 30):
-        out = pattern[:e]
-        try:
-            kept, lists, entries, dropped = walk(image, a, b, c, d, out, read)
-            return ["ok", len(kept), lists, entries, dropped] + sums(kept) + [untouched(out, len(kept))]
-        except Refused as r:
-            return r.told() + [untouched(out, 0)]
+        return told_walk(e, lambda out: walk(image, a, b, c, d, out, read))
+    if tag == 8:
+        return told_lookup(lambda: lookup(image, a, as_signed(b), c, name))
     if tag in (16, 32):
         out = pattern[:e]
         try:
@@ -1087,11 +1225,7 @@ def answer_of(tag, a, b, c, d, e, name, image):
         except Refused as r:
             return r.told() + [untouched(out, 0)]
     if tag in (17, 33):
-        try:
-            kept, lists, entries, dropped = walked(image, a, b, c, d, read)
-            return ["ok", len(kept), lists, entries, dropped]
-        except Refused as r:
-            return r.told()
+        return told_counts(lambda: walked(image, a, b, c, d, read))
     if tag == 24:
         out = wide_pattern[:e]
         try:
@@ -1105,6 +1239,10 @@ def answer_of(tag, a, b, c, d, e, name, image):
         return one_part((a, b, c, d, e), name, image)
     if tag == 28:
         return row_of_calls(name, image)
+    if tag == 38:
+        return with_a_record(a, b, c, d, e, name, image)
+    if tag == 39:
+        return place_told(image, a + 2 ** 32 * b, c)
     if tag == 6:
         return with_part(image, a, key_record, 2)
     if tag == 7:
@@ -1116,8 +1254,6 @@ def answer_of(tag, a, b, c, d, e, name, image):
             return ["ok"] + base_block(image)
         if tag == 3:
             return ["ok", int(is_big_data_block(image))]
-        if tag == 8:
-            return ["ok"] + lookup(image, a, as_signed(b), c, name)
         if tag == 9:
             return ["ok", name_hash(a & 0xFFFF, image)]
         if tag == 10:
@@ -1188,7 +1324,7 @@ def cases(read):
             length = words[0]
             image = None
         else:
-            if (tag in (4, 13) and words[3] > ROOM_MOST or tag in (5, 14, 16, 30, 31, 32) and words[4] > ROOM_MOST
+            if (tag in (4, 13) and words[3] > ROOM_MOST or tag in (5, 14, 16, 30, 31, 32, 38) and words[4] > ROOM_MOST
                     or tag == 19 and words[4] > BYTES_MOST or tag in (21, 22) and words[4] > DATA_MOST
                     or tag == 24 and words[4] > WIDE_MOST or tag in (35, 36, 37) and words[4] > CELL_MOST):
                 bad("room")

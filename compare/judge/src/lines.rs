@@ -107,6 +107,8 @@ fn function(tag: u32) -> &'static str {
         35 => "li as lh",
         36 => "lh as li",
         37 => "there and back",
+        38 => "record given",
+        39 => "record's place",
         _ => "?",
     }
 }

@@ -3,12 +3,13 @@
 //!   cases hives SEED FILE.. > CASES     hives: all their records and lists, cuts and damaged copies
 //!   cases stored SEED FILE.. > CASES    a share of all of these, to be kept in the repository
 //!   cases stored-parts SEED FILE.. > CASES   the same of bins as they arrive, with each stored case of the whole check cut in parts, of
-//!                                       totals beside the keys, of the strict profile, and of lists written anew
+//!                                       the strict profile, of lists written anew, of totals beside the keys, and of records that know their place
 //!   cases stored-rust SEED MARKS FILE.. > CASES   the same of what the Rust has; MARKS: a file with a 1 for each case to keep, 0
 //!                                       for each other, or `-` to keep all
 //!   cases SEED ROUNDS > CASES           random images rich in plausible lists and records, and damaged ones
 //!   cases strict SEED ROUNDS > CASES    of the fixed and of the random ones those about the strict profile alone
 //!   cases conversion SEED ROUNDS > CASES   the same of those about lists written anew
+//!   cases place SEED ROUNDS > CASES     the same of those about totals beside the keys and about records that know their place
 //! Same words, same bytes. Uses nothing of the Rust that is tested, and no reading of the paper.
 use std::io::{BufWriter, Write};
 
@@ -42,7 +43,7 @@ impl Rng {
 
 const IMAGE_MOST: usize = 524_288;
 /// one more than the greatest tag of a case
-const TAGS: usize = 38;
+const TAGS: usize = 40;
 const ENOUGH: u32 = 1024;
 /// the greatest room for a value's data, and the bytes of it in one cell or one segment
 const DATA_MOST: u32 = 65_536;
@@ -226,6 +227,12 @@ impl<W: Write> Out<W> {
         let name: Vec<u8> = calls.iter().flatten().flat_map(|x| x.to_le_bytes()).collect();
         self.named(28, &[], &name);
     }
+    /// A record given with the image to a function: the record and the text behind it in the name, and what else the function needs.
+    fn given(&mut self, function: u32, record: &[u8], text: &[u8], (budget, room, minor, filled): Beside) {
+        self.named(38, &[minor, function, filled, budget, room], &[record, text].concat());
+    }
+    /// The place of the record that is read at a position of 64 bits.
+    fn place(&mut self, at: u64, base: u32) { self.case(39, &[at as u32, (at >> 32) as u32, base], None); }
     /// A case that is asked for once while the image stays.
     fn once(&mut self, tag: u8, words: &[u32]) {
         let one = (tag, words.to_vec());
@@ -1017,7 +1024,7 @@ fn stored(o: &mut Out<impl Write>, seed: u64, files: &[String], rust: bool) {
 }
 
 /// The samples about bins as they arrive, which are stored by themselves: among them each case of the whole check that is stored. Behind
-/// them those about totals beside the keys, those about the strict profile, and then those about lists written anew.
+/// them those about the strict profile, about lists written anew, about totals beside the keys, and then about records that know their place.
 fn stored_parts(o: &mut Out<impl Write>, seed: u64, files: &[String]) {
     let mut others = Out::new(std::io::sink(), [1; TAGS], 0);
     others.checked = Some(vec![]);
@@ -1028,15 +1035,18 @@ fn stored_parts(o: &mut Out<impl Write>, seed: u64, files: &[String]) {
     any_parts(o, &mut Rng(seed), 20);
     hive_parts(o, &mut Rng(seed), files, 3);
     short_names(o);
-    totals(o, false);
-    any_totals(o, &mut Rng(seed), 20, SMALL.0);
-    hive_totals(o, &mut Rng(seed), files, 2);
     strict(o, false);
     any_strict(o, &mut Rng(seed), 3, SMALL.0);
     hive_strict(o, &mut Rng(seed), files, 1, false);
     conversion(o, false);
     any_conversion(o, &mut Rng(seed), 10, SMALL.0);
     hive_conversion(o, &mut Rng(seed), files, 6, false);
+    totals(o, false);
+    any_totals(o, &mut Rng(seed), 12, SMALL.0);
+    hive_totals(o, &mut Rng(seed), files, 1);
+    in_place(o, false);
+    any_place(o, &mut Rng(seed), 10, SMALL.0);
+    hive_place(o, &mut Rng(seed), files, 1, false);
 }
 
 // ---- hashes of names with units above 255: the ends of the ranges that have an upper case, words, and `random` others
@@ -1812,13 +1822,16 @@ fn hive_parts(o: &mut Out<impl Write>, r: &mut Rng, files: &[String], copies: us
 
 // ---- totals beside the keys
 
-/// A call of a row: kind, times, position (its low and its high word), base, budget, count, list.
+/// A call of a row: kind, times, position (its low and its high word), base, budget, count, list; of kinds from 2 on the last is the step.
 type Call = [u32; 8];
-/// What a walk goes by: base, budget, count, list.
+/// What a record that is made up goes by: base, budget, count, list.
 type From = [u32; 4];
+/// A key record of the image, and how it is read: its position, base, budget.
+type At = (u64, u32, u32);
 fn call(kind: u32, times: u32, position: u64, rest: From) -> Call {
     [kind, times, position as u32, (position >> 32) as u32, rest[0], rest[1], rest[2], rest[3]]
 }
+/// By a record that is made up.
 fn add(position: u64, from: From) -> Call { call(0, 1, position, from) }
 fn replace(position: u64, from: From) -> Call { call(1, 1, position, from) }
 fn remove(position: u64) -> Call { call(2, 1, position, [0; 4]) }
@@ -1829,14 +1842,17 @@ fn hand(at: u32, taken: bool, position: u64, kept: u32) -> Call { call(5, 1, pos
 fn total(total: u64) -> Call { call(6, 1, total, [0; 4]) }
 fn clear() -> Call { call(7, 1, 0, [0; 4]) }
 /// By the key record at the position.
-fn add_key(position: u64, base: u32, budget: u32) -> Call { call(8, 1, position, [base, budget, 3, 5]) }
-fn replace_key(position: u64, base: u32, budget: u32) -> Call { call(9, 1, position, [base, budget, 3, 5]) }
+fn add_key(at: At) -> Call { call(8, 1, at.0, [at.1, at.2, 3, 0]) }
+fn replace_key(at: At) -> Call { call(9, 1, at.0, [at.1, at.2, 3, 0]) }
 fn times(n: u32, mut call: Call) -> Call { call[1] = n; call }
+/// So many times, the positions so far apart.
+fn row(n: u32, step: usize, mut call: Call) -> Call { call[1] = n; call[7] = step as u32; call }
 
-/// Walks from a base of 16, with what they keep: an image, those that are read, and those that are refused: by 2, 4, 7, 8 (two), 13, 14, 15.
-fn walks() -> (Vec<u8>, Vec<From>, Vec<From>) {
+/// Lists from a base of 16, with so many bytes behind them: an image, walks that are read, and those that are refused: by 2, 4, 7, 8 (two), 13,
+/// 14, 15 (two).
+fn walks(behind: usize) -> (Vec<u8>, Vec<From>, Vec<From>) {
     let base = 16u32;
-    let mut m = vec![0; 16 + 1800];
+    let mut m = vec![0; LISTS + behind];
     let out = u32::MAX - 15;
     leaf_list(&mut m, 16, b"li", &[1, 2, 3, 4, 5], base);
     leaf_list(&mut m, 16 + 32, b"lf", &[7, out, u32::MAX - 16], base);
@@ -1856,128 +1872,250 @@ fn walks() -> (Vec<u8>, Vec<From>, Vec<From>) {
     (m, good, bad)
 }
 
+/// The bytes of the lists of `walks`, and where among them 388 are free.
+const LISTS: usize = 16 + 1800;
+const SPOT: usize = 1440;
+/// From one key record to the next where they lie over each other: what reads them and what walks go by does not clash.
+const STRIDE: usize = 40;
+
+/// A key record with no name: its size word and letters, the count and the list of its subkeys; its other bytes stay.
+fn close_key(m: &mut [u8], p: usize, word: i32, count: u32, list: u32) {
+    key_head(m, p, word, b"nk", 0);
+    put32(m, p + 24, count);
+    put32(m, p + 32, list);
+}
+
+/// Those lists with key records behind them: the image, how each record is read whose walk succeeds, and each whose walk is refused; then
+/// where a row of 300 records more begins, whose walks keep 5, 2, 0 and 12 in turn.
+fn keyed() -> (Vec<u8>, Vec<At>, Vec<At>, u64) {
+    let (mut m, good, bad) = walks((20 + 300 + 1) * STRIDE);
+    m[LISTS..].fill(0x11);
+    let all: Vec<From> = good.iter().chain(&bad).copied().collect();
+    for i in 0..320 {
+        let from = if i < 20 { all[i] } else { good[i % 4] };
+        close_key(&mut m, LISTS + STRIDE * i, if i % 2 == 0 { -80 } else { 80 }, from[2], from[3]);
+    }
+    let ats: Vec<At> = all.iter().enumerate().map(|(i, from)| ((LISTS + STRIDE * i) as u64, from[0], from[1])).collect();
+    (m, ats[..good.len()].to_vec(), ats[good.len()..].to_vec(), (LISTS + STRIDE * 20) as u64)
+}
+
+/// The record of kinds 0 and 1 at a place of an image: a cell of 88 bytes, a name of 5, each other field a number of its own.
+fn made_up(m: &mut [u8], p: usize, count: u32, list: u32) {
+    key_head(m, p, -88, b"nk", 5);
+    for (at, x) in [(6, 4002), (78, 4018)] { put16(m, p + at, x); }
+    put64(m, p + 8, 4003);
+    for (at, x) in [(16, 4004), (20, 4005), (24, count), (28, 4006), (32, list), (36, 4007), (40, 4008), (44, 4009), (48, 4010), (52, 4011), (56, 4012), (60, 4013), (64, 4014), (68, 4015), (72, 4016)] { put32(m, p + at, x); }
+}
+
 /// Totals beside the keys: each refusal on both sides and before each other, places used again, and tables that no call made. `more`: what
 /// is too much of the same to be stored.
 fn totals(o: &mut Out<impl Write>, more: bool) {
-    let (m, good, bad) = walks();
-    let all: Vec<From> = good.iter().chain(&bad).copied().collect();
+    let (m, good, bad, fill) = keyed();
+    let all: Vec<At> = good.iter().chain(&bad).copied().collect();
+    let filler = |i: u64| fill + STRIDE as u64 * i;
+    let (p, q) = (good[0].0, good[1].0);
+    // the first record by other bases and budgets: walks that keep 5, 1, 0, 0 and 300; refused by 4 (two), 8, 14, 2, 13 and 15
+    let bases = [16, 48, 88, 144, 216, 0, 152, 168, 120, u32::MAX];
+    let others: Vec<At> = bases.iter().map(|&b| (p, b, BUDGET)).chain([(p, 16, BUDGET + 1), (p, 16, 0)]).collect();
     let ends = [0, 1, 7, 255, 256, u32::MAX as u64, 1 << 32, u64::MAX - 1, u64::MAX];
+    let made = [16, BUDGET, 1, 0];
     o.image(&m);
     // no call, and the empty table
     o.calls(&[]);
     for kind in [2, 3, 4, 5, 6, 7, 10, 11, u32::MAX] { for n in [0, 1, 2] { o.calls(&[call(kind, n, 7, [3, 1, 9, 0]), whole()]); } }
-    for &from in &all { for &p in &ends[..if more { 9 } else { 3 }] { o.calls(&[add(p, from), entry(p), whole()]); o.calls(&[replace(p, from)]); } }
+    for &at in &all { o.calls(&[add_key(at), entry(at.0), whole()]); o.calls(&[replace_key(at)]); }
     // one key, then each call on it and beside it: 19 and 16 before what the walk refuses, and another number in its place
-    for &first in &good[..if more { good.len() } else { 2 }] { for &second in &all { for q in [7, 8] {
-        o.calls(&[add(7, first), add(q, second), whole()]);
-        o.calls(&[add(7, first), replace(q, second), entry(7), whole()]);
-        if more || q == 7 { o.calls(&[add(7, first), replace(q, second), add(8, first), remove(q), entry(7), entry(8), whole()]); }
-    } } }
+    for &first in &others[..if more { 5 } else { 1 }] {
+        for &second in &others {
+            o.calls(&[add_key(first), add_key(second), whole()]);
+            o.calls(&[add_key(first), replace_key(second), entry(p), whole()]);
+            o.calls(&[add_key(first), replace_key(second), add_key(good[1]), remove(p), entry(p), entry(q), whole()]);
+        }
+        for &second in &all[1..] {
+            o.calls(&[add_key(first), add_key(second), whole()]);
+            o.calls(&[add_key(first), replace_key(second), entry(p), whole()]);
+            if more { o.calls(&[add_key(first), replace_key(second), add_key(second), remove(p), entry(p), entry(second.0), whole()]); }
+        }
+    }
+    // positions of 64 bits, by hand: a record that is made up is at none of them
     for &p in &ends { for &q in &ends {
         if !more && p != q && (p as u32 != q as u32) && p.wrapping_sub(q) != 1 { continue; }
-        for act in [add(q, good[3]), replace(q, good[3]), remove(q), entry(q)] { o.calls(&[add(p, good[0]), act, whole()]); }
+        for act in [add(q, made), replace(q, made), remove(q), entry(q)] { o.calls(&[hand(0, true, p, 5), total(5), act]); }
     } }
-    // positions that pass 2^64
-    for p in [u64::MAX, u64::MAX - 2, u32::MAX as u64 - 2] { o.calls(&[times(5, add(p, good[0])), times(3, remove(p)), times(5, entry(p)), whole()]); }
+    for far in [0, 1, 40, 1 << 16, 1 << 32, 1 << 63, u64::MAX << 32] {
+        let table = [hand(0, true, p.wrapping_add(far), 9), total(9)];
+        for act in [add_key(good[0]), replace_key(good[0]), remove(p), entry(p)] { o.calls(&[&table[..], &[act, whole()]].concat()); }
+    }
+    // positions that pass 2^64, and steps
+    for at in [u64::MAX, u64::MAX - 2, u32::MAX as u64 - 2] { for step in [0, 1, 2, STRIDE, u32::MAX as usize] {
+        if !more && step > 2 && at != u64::MAX { continue; }
+        o.calls(&[row(5, step, call(5, 1, at, [0, 1, 3, 0])), total(15), row(3, step, remove(at)), row(5, step, entry(at)), times(5, entry(at)), whole()]);
+    } }
+    for step in [0, 1, STRIDE, 2 * STRIDE, 3 * STRIDE] {
+        o.calls(&[row(4, step, add_key((fill, 16, BUDGET)))]);
+        o.calls(&[row(3, step, add_key((fill, 16, BUDGET))), row(6, STRIDE, replace_key((fill, 16, BUDGET))), row(3, step, remove(fill)), whole()]);
+    }
     // the table full, by calls and by hand: what is in, what is not; removed and added again
-    let by_hand = [times(256, call(5, 1, 100, [0, 1, 2, 0])), total(512)];
-    let full = if more { vec![times(256, add(100, good[1]))] } else { by_hand.to_vec() };
-    for (i, &from) in all.iter().enumerate() { for q in [99, 100, 227, 355, 356] {
-        if !more && (i % 3 == 1 && i < good.len() || q > 100 && i % 5 > 0) { continue; }
-        o.calls(&[&by_hand[..], &[add(q, from), whole()]].concat());
-        if more || q > 100 { o.calls(&[&by_hand[..], &[replace(q, from), entry(q), whole()]].concat()); }
-        if more { o.calls(&[&full[..], &[add(q, from), whole()]].concat()); }
-        o.calls(&[&full[..], &[replace(q, from), remove(q), add(q, from), add(q + 1000, from), whole()]].concat());
+    let by_hand = [row(256, STRIDE, call(5, 1, fill, [0, 1, 2, 0])), total(512)];
+    let full = if more { vec![row(256, STRIDE, add_key((fill, 16, BUDGET)))] } else { by_hand.to_vec() };
+    for (i, &at) in all.iter().enumerate() {
+        o.calls(&[&by_hand[..], &[add_key(at), whole()]].concat());
+        o.calls(&[&by_hand[..], &[replace_key(at), entry(at.0), whole()]].concat());
+        if more { o.calls(&[&full[..], &[add_key(at), whole()]].concat()); }
+        if more || i % 2 == 0 { o.calls(&[&full[..], &[remove(filler(9 * i as u64)), add_key(at), add_key(filler_at(filler(9 * i as u64))), whole()]].concat()); }
+    }
+    for (i, n) in [0, 127, 255, 256].into_iter().enumerate() { for (j, &(base, budget)) in [(16, BUDGET), (48, BUDGET), (216, BUDGET), (16, BUDGET + 1), (16, 0), (120, BUDGET)].iter().enumerate() {
+        if !more && i % 2 == 1 && j % 2 == 1 { continue; }
+        let at = (filler(n), base, budget);
+        o.calls(&[&full[..], &[add_key(at), whole()]].concat());
+        o.calls(&[&full[..], &[replace_key(at), entry(at.0), remove(at.0), add_key(at), add_key(good[0]), whole()]].concat());
     } }
     for n in [0, 1, 254, 255, 256, 257, 300] {
-        if more || n < 2 || n == 256 || n == 257 { o.calls(&[times(n, add(1, good[0])), whole()]); }
-        if more || n == 256 { o.calls(&[times(n, add(1, good[3])), times(300, remove(0)), whole(), times(3, add(9, good[1]))]); }
+        let first = (fill, 16, BUDGET);
+        if more || n < 2 || n == 256 || n == 257 { o.calls(&[row(n, STRIDE, add_key(first)), whole()]); }
+        if more || n == 256 { o.calls(&[row(n, STRIDE, add_key(first)), row(302, STRIDE, remove(fill - STRIDE as u64)), whole(), row(3, STRIDE, add_key(good[1]))]); }
+        if more || n == 257 { o.calls(&[row(n, STRIDE, add_key(first)), row(n, STRIDE, replace_key((fill, 48, BUDGET))), row(n, STRIDE, entry(fill)), whole()]); }
     }
     // freed places: the first of several, in any order of removing
-    let six = times(6, add(40, good[0]));
-    for gone in [&[40][..], &[45], &[43, 41], &[41, 43], &[44, 42, 40], &[40, 41, 42, 43, 44, 45], &[45, 44, 43, 42, 41, 40], &[42, 42, 39, 46]] {
-        let mut row = vec![six];
-        row.extend(gone.iter().map(|&p| remove(p)));
-        o.calls(&row);
-        for (i, &from) in good.iter().chain(&bad[..2]).enumerate() { row.push(add(60 + i as u64, from)); if more || i % 3 == 0 { o.calls(&row); } }
-        row.push(whole());
-        o.calls(&row);
-        o.calls(&[&full[..], &[times(6, remove(140))], &row[..]].concat());
+    let six = row(6, STRIDE, add_key((filler(260), 16, BUDGET)));
+    for gone in [&[0][..], &[5], &[3, 1], &[1, 3], &[4, 2, 0], &[0, 1, 2, 3, 4, 5], &[5, 4, 3, 2, 1, 0], &[2, 2, 8, 6]] {
+        let mut calls = vec![six];
+        calls.extend(gone.iter().map(|&i| remove(filler(260 + i))));
+        o.calls(&calls);
+        for (i, &at) in good.iter().chain(&bad[..2]).enumerate() { calls.push(add_key(at)); if more || i % 5 == 0 { o.calls(&calls); } }
+        calls.push(whole());
+        o.calls(&calls);
+        o.calls(&[&full[..], &[row(6, STRIDE, remove(filler(100)))], &calls[..]].concat());
     }
-    o.calls(&[six, clear(), whole(), entry(40), add(40, good[3])]);
+    o.calls(&[six, clear(), whole(), entry(filler(260)), add_key(good[3])]);
     // a position that stands twice, its first place taken or free: the first that is taken is meant, then the next one
-    for (a, b) in [(0, 1), (3, 200), (200, 3), (255, 0)] { for first in [false, true] { for &from in &all[..if more { all.len() } else { 2 }] {
-        let table = [hand(a, first, 7, 10), hand(b, true, 7, 20), hand(9, true, 8, 5), total(35)];
-        for acts in [&[add(7, from)][..], &[replace(7, from), entry(7)], &[remove(7), entry(7)], &[remove(7), remove(7), remove(7)], &[remove(7), add(7, from), remove(7)], &[add(70, from), replace(7, from)]] {
+    for (a, b) in [(0, 1), (3, 200), (200, 3), (255, 0)] { for first in [false, true] { for &at in &others[..if more { others.len() } else { 1 + a as usize / 255 }] {
+        let table = [hand(a, first, p, 10), hand(b, true, p, 20), hand(9, true, q, 5), total(35)];
+        for acts in [&[add_key(at)][..], &[replace_key(at), entry(p)], &[remove(p), entry(p)], &[remove(p), remove(p), remove(p)], &[remove(p), add_key(at), remove(p)], &[add_key(good[4]), replace_key(at)]] {
             o.calls(&[&table[..], acts, &[whole()]].concat());
         }
     } } }
     // totals that turn over, and numbers of 32 bits
     for kept in [0, 1, 5, 300, u32::MAX] { for &sum in &[0, 4, 5, u32::MAX as u64, u64::MAX - 299, u64::MAX, 1, 1 << 32, (1 << 63) - 1, u64::MAX - 1][..if more { 10 } else { 6 }] {
-        let table = [hand(2, true, 7, kept), hand(1, false, 7, 77), hand(0, false, 0, u32::MAX), total(sum)];
-        for &act in &[remove(7), replace(7, good[0]), replace(7, good[5]), replace(7, good[2]), add(8, good[5]), add(8, good[2]), add(7, good[0]), replace(7, bad[1])][..if more || kept > 300 { 8 } else { 5 }] {
-            o.calls(&[&table[..], &[act, whole()]].concat());
+        if !more && (sum == 4 || sum == u32::MAX as u64) && kept < 300 { continue; }
+        let table = [hand(2, true, p, kept), hand(1, false, p, 77), hand(0, false, 0, u32::MAX), total(sum)];
+        for &act in &[remove(p), replace_key(others[0]), replace_key(others[4]), replace_key(others[2]), add_key(good[5]), add_key(good[2]), add_key(good[0]), replace_key(others[6])][..if more || kept > 300 && sum < 9 { 8 } else { 5 }] {
+            o.calls(&[&table[..], &[act]].concat());
         }
     } }
     // free places with a position and a number, and all places alike
-    for q in [0, 7, 9] { for p in [0, 7] {
-        let junk = [times(if more { 256 } else { 12 }, call(5, 1, 0, [0, 0, 99, 0])), hand(5, false, p, 3), hand(6, true, 9, 4), total(4)];
-        for act in [add(q, good[0]), replace(q, good[0]), remove(q), entry(q), add(q, bad[1])] { o.calls(&[&junk[..], &[act, entry(q), whole()]].concat()); }
+    for q in [p, good[2].0, good[3].0] { for first in [p, good[2].0] {
+        let junk = [row(if more { 256 } else { 12 }, STRIDE, call(5, 1, p, [0, 0, 99, 0])), hand(5, false, first, 3), hand(6, true, good[3].0, 4), total(4)];
+        for act in [add_key((q, 16, BUDGET)), replace_key((q, 16, BUDGET)), remove(q), entry(q), add_key((q, 152, BUDGET))] { o.calls(&[&junk[..], &[act, entry(q)]].concat()); }
     } }
     for (taken, kept) in [(true, u32::MAX), (true, 1), (false, u32::MAX), (false, 1)].into_iter().take(if more { 4 } else { 1 }) {
-        let alike: Vec<Call> = (0..256).map(|i| hand(i, taken, 7, kept)).collect();
+        let alike: Vec<Call> = (0..256).map(|i| hand(i, taken, p, kept)).collect();
         let sum = 256 * kept as u64;
-        for acts in [&[add(7, good[0])][..], &[add(8, good[0])], &[add(8, bad[0])], &[replace(7, good[0]), entry(7)], &[remove(7), entry(7), add(8, good[0])]] { o.calls(&[&alike[..], &[total(sum)], acts, &[whole()]].concat()); }
-        o.calls(&[&alike[..], &[total(sum)], &vec![remove(7); 257], &[whole()]].concat());
+        for acts in [&[add_key(good[0])][..], &[add_key(good[1])], &[add_key(bad[0])], &[replace_key(good[0]), entry(p)], &[remove(p), entry(p), add_key(good[1])]] { o.calls(&[&alike[..], &[total(sum)], acts, &[whole()]].concat()); }
+        o.calls(&[&alike[..], &[total(sum)], &vec![remove(p); 257], &[whole()]].concat());
     }
     // rests of a call, and of nothing
-    let row: Vec<u8> = [add(7, good[0]), add(8, good[1])].iter().flatten().flat_map(|x| x.to_le_bytes()).collect();
-    for n in [0, 1, 31, 32, 33, 63, 64] { o.named(28, &[], &row[..n]); }
-    // by the key record at the position: records that are read, with each walk; then each that is not
-    let at = m.len() as u64;
-    for (i, from) in all.iter().enumerate() {
-        let mut m = m.clone();
-        m.resize(m.len() + 96, 0x11);
-        for (p, x) in [(24, from[2]), (28, 2), (32, from[3]), (36, 32), (40, 1), (44, 0), (48, 72)] { put32(&mut m, at as usize + p, x); }
-        key_head(&mut m, at as usize, if i % 2 == 0 { -88 } else { 96 }, b"nk", 4);
+    let bytes: Vec<u8> = [add_key(good[0]), add_key(good[1])].iter().flatten().flat_map(|x| x.to_le_bytes()).collect();
+    for n in [0, 1, 31, 32, 33, 63, 64] { o.named(28, &[], &bytes[..n]); }
+    totals_made_up(o, more, &by_hand);
+    totals_unread(o, more, &full);
+}
+fn filler_at(position: u64) -> At { (position, 16, BUDGET) }
+
+/// Records that are made up: one that stands in the image, and one that does not: 21 before all others.
+fn totals_made_up(o: &mut Out<impl Write>, more: bool, full: &[Call]) {
+    let (image, _, _, _) = keyed();
+    let (_, good, bad) = walks(image.len() - LISTS);
+    let spot = SPOT as u64;
+    let in_it = [hand(0, true, spot, 9), total(9)];
+    let beside = [hand(0, true, spot + 1, 9), total(9)];
+    for (i, &from) in good.iter().chain(&bad).enumerate() {
+        let mut m = image.clone();
+        made_up(&mut m, SPOT, from[2], from[3]);
+        m[SPOT + 80..SPOT + 88].copy_from_slice(&[i as u8; 8]);
         o.image(&m);
-        let (base, budget) = (from[0], from[1]);
-        o.calls(&[add_key(at, base, budget), entry(at), whole()]);
-        o.calls(&[add_key(at, base, budget), add_key(at, base, budget), replace_key(at, base, budget), whole()]);
-        o.calls(&[replace_key(at, base, budget), add(at, good[0]), replace_key(at, base, budget), remove(at)]);
-        o.calls(&[&full[..], &[add_key(at, base, budget), whole()]].concat());
-        if i > 0 && !more { continue; }
+        let [base, budget, count, list] = from;
+        o.calls(&[add(spot, from), entry(spot), whole()]);
+        o.calls(&[replace(spot, from), add(spot, from), replace(spot, from), add(spot, from)]);
+        o.calls(&[&in_it[..], &[add(spot, from), replace(spot, from), whole()]].concat());
+        o.calls(&[full, &[add(spot, from), replace(spot, from), whole()]].concat());
+        if more || i % 4 == 0 {
+            o.calls(&[&beside[..], &[replace(spot, from), add(spot, from), whole()]].concat());
+            o.calls(&[times(3, add(spot - 1, from)), whole()]);
+        }
+        // another base and another budget are no other record
+        o.calls(&[add(spot, [base + 32, budget, count, list]), replace(spot, [base, 1, count, list]), replace(spot, [u32::MAX, BUDGET + 1, count, list])]);
+        for (j, (at, from)) in [(spot, [base, budget, count ^ 1, list]), (spot, [base, budget, count, list ^ 1]), (spot + 1, from), (spot - 1, from), (spot + (1 << 32), from), (spot | 1 << 63, from), (spot, [base, BUDGET + 1, u32::MAX, list])].into_iter().enumerate() {
+            if !more && (i + j) % 9 > 0 { continue; }
+            o.calls(&[add(at, from), replace(at, from)]);
+            o.calls(&[&in_it[..], &[add(at, from), replace(at, from), entry(spot)]].concat());
+            o.calls(&[full, &[add(at, from), whole()]].concat());
+        }
+    }
+    // each byte of it another in turn: before 19, before 16, before what the walk refuses, before 9
+    for (i, &from) in [good[0], bad[1], bad[5]].iter().enumerate() {
+        let mut m = image.clone();
+        made_up(&mut m, SPOT, from[2], from[3]);
+        o.image(&m);
+        for at in 0..88 {
+            if !more && ((at / 2) % 3 != i || at % 8 > 5) { continue; }
+            o.patch(SPOT + at, &[m[SPOT + at] ^ if at % 2 == 0 { 1 } else { 128 }]);
+            o.calls(&[&in_it[..], &[add(spot, from), replace(spot, from)]].concat());
+            if more || at % 8 < 2 { o.calls(&[replace(spot, from), add(spot, from)]); }
+            if more || at % 16 < 2 { o.calls(&[full, &[add(spot, from), whole()]].concat()); }
+            o.patch(SPOT + at, &m[SPOT + at..SPOT + at + 1]);
+        }
+    }
+}
+
+/// Calls by the key record at a position that has none.
+fn totals_unread(o: &mut Out<impl Write>, more: bool, full: &[Call]) {
+    let (image, good, bad, _) = keyed();
+    let at = image.len();
+    let (_, lists, faults) = walks(image.len() - LISTS);
+    for (i, from) in lists.iter().chain(&faults).enumerate() {
+        if i > 0 && !more { break; }
+        let mut m = image.clone();
+        m.resize(at + 96, 0x11);
+        close_key(&mut m, at, if i % 2 == 0 { -88 } else { 96 }, from[2], from[3]);
+        put16(&mut m, at + 76, 4);
         let n = m.len();
-        let faults: [(usize, usize, Vec<u8>); 9] = [(n, 4, b"vk".to_vec()), (n, 0, signed(-79).to_vec()), (n, 0, signed(97).to_vec()), (n, 0, vec![0; 4]), (n, 76, vec![17, 0]), (n - 17, 4, b"nk".to_vec()), (n - 96, 0, vec![]), (n - 97, 0, vec![]), (n - 9, 4, b"nk".to_vec())];
-        for (length, place, bytes) in faults {
+        let breaks: [(usize, usize, Vec<u8>); 9] = [(n, 4, b"vk".to_vec()), (n, 0, signed(-79).to_vec()), (n, 0, signed(97).to_vec()), (n, 0, vec![0; 4]), (n, 76, vec![17, 0]), (n - 17, 4, b"nk".to_vec()), (n - 96, 0, vec![]), (n - 97, 0, vec![]), (n - 9, 4, b"nk".to_vec())];
+        for (length, place, bytes) in breaks {
             let mut d = m.clone();
-            d[at as usize + place..at as usize + place + bytes.len()].copy_from_slice(&bytes);
+            d[at + place..at + place + bytes.len()].copy_from_slice(&bytes);
             o.image(&d);
             o.length(length);
-            for p in [at, at + 1, u64::MAX - at] {
-                o.calls(&[add_key(p, base, budget), whole()]);
-                o.calls(&[add(p, good[0]), add_key(p, base, budget), replace_key(p, base, budget), remove(p)]);
-                o.calls(&[&full[..], &[replace_key(p, base, budget), whole()]].concat());
+            for p in [at as u64, at as u64 + 1, u64::MAX - at as u64] {
+                let key = (p, from[0], from[1]);
+                o.calls(&[add_key(key), whole()]);
+                if !more && p != at as u64 { continue; }
+                o.calls(&[hand(0, true, p, 3), total(3), add_key(key), replace_key(key), remove(p)]);
+                o.calls(&[full, &[replace_key(key), add_key(good[0]), add_key(bad[1]), whole()]].concat());
             }
         }
     }
 }
 
-/// A call of few positions by a few walks.
-fn any_call(r: &mut Rng, walks: &[From], few: u64) -> Call {
-    let p = if r.chance(30) { r.next() >> r.below(64) } else { 7 + r.below(few) };
-    let from = r.pick(walks);
-    match r.below(12) {
-        0..=4 => add(p, from),
-        5 | 6 => replace(p, from),
-        7..=9 => remove(p),
-        10 => entry(p),
+/// A call on one of the first few of some keys, mostly read as they are meant; now and then by a record that is made up, and where that may stand.
+fn any_call(r: &mut Rng, keys: &[At], few: usize, made: (u64, From)) -> Call {
+    let mut at = keys[r.below(few.min(keys.len()) as u64) as usize];
+    if r.chance(30) { at.0 = r.next() >> r.below(64); }
+    if r.chance(8) { at.1 = if r.chance(2) { r.word() } else { r.pick(keys).1 + r.below(64) as u32 }; }
+    if r.chance(12) { at.2 = r.pick(&[0, 1, 2, BUDGET + 1, u32::MAX]); }
+    match r.below(25) {
+        0..=9 => add_key(at),
+        10..=13 => replace_key(at),
+        14..=19 => remove(at.0),
+        20 | 21 => entry(at.0),
+        22 => if r.chance(3) { add(at.0, made.1) } else { add(made.0, made.1) },
+        23 => if r.chance(3) { replace(at.0, made.1) } else { replace(made.0, made.1) },
         _ => whole(),
     }
 }
 
-/// Random rows of calls on `random` images with lists, of at most so many bytes: short ones, long ones over few positions, rows that fill a
-/// table and drain it, and tables made by hand.
+/// Random rows of calls on `random` images with lists, of at most so many bytes, and key records behind them: short ones, long ones over few
+/// keys, rows that fill a table and drain it, and tables made by hand.
 fn any_totals(o: &mut Out<impl Write>, r: &mut Rng, random: u64, most: usize) {
     for i in 0..random {
         let base = r.pick(&[0usize, 2, 16, 31, 32, most / 4]);
@@ -1990,52 +2128,73 @@ fn any_totals(o: &mut Out<impl Write>, r: &mut Rng, random: u64, most: usize) {
                 if at + 4 <= m.len() && r.chance(3) { let x = (u32::MAX - base as u32 - 1).wrapping_add(r.below(4) as u32); put32(&mut m, at, x); }
             }
         }
-        o.image(&m);
-        let mut walks: Vec<From> = places.iter().map(|&p| [base as u32, BUDGET, 1 + r.below(9) as u32, (p - base) as u32]).collect();
-        for _ in 0..r.range(1, 3) {
-            let list = if r.chance(2) { r.range(0, m.len() + 4) as u32 } else { r.pick(&places.iter().map(|&p| (p - base) as u32).chain([0]).collect::<Vec<u32>>()) };
-            walks.push(match r.below(6) { 0 => [base as u32, BUDGET, 0, list], 1 => [base as u32, r.below(8) as u32, 1, list], 2 => [r.word(), r.word(), r.word(), r.word()], 3 => [base as u32, BUDGET + 1, 1, list], 4 => [base as u32, BUDGET, (1 << 20) + 1, list], _ => [base as u32, BUDGET, 1, list] });
+        // the keys: of each list, and of any place; where the table is to be filled, many
+        let (first, lists_end) = (m.len() + r.range(0, 8), m.len());
+        let filled = i % 10 == 0;
+        let n = if filled { 300 } else { r.range(3, 14) };
+        let fill = r.next() as u8;
+        m.resize(first + STRIDE * (n + 1), fill);
+        let mut keys: Vec<At> = vec![];
+        for j in 0..n {
+            let list = if places.is_empty() || r.chance(8) { r.range(0, lists_end + 4) as u32 } else { (r.pick(&places) - base) as u32 };
+            let count = match r.below(12) { 0 => 0, 1 => (1 << 20) + 1, 2 => r.word(), _ => 1 + r.below(9) as u32 };
+            let p = first + STRIDE * j;
+            close_key(&mut m, p, if r.chance(3) { 80 } else { -80 }, count, list);
+            keys.push((p as u64, base as u32, if r.chance(9) { r.below(8) as u32 } else { BUDGET }));
         }
+        // now and then the record that is made up, in the place of a key
+        let made = (keys[r.range(0, n - 2)].0, [base as u32, BUDGET, r.below(3) as u32, places.first().map_or(0, |&p| (p - base) as u32)]);
+        if r.chance(2) { made_up(&mut m, made.0 as usize, made.1[2], made.1[3]); }
+        o.image(&m);
         for _ in 0..3 {
-            let row: Vec<Call> = (0..r.range(1, 6)).map(|_| any_call(r, &walks, 2)).collect();
-            o.calls(&row);
+            let calls: Vec<Call> = (0..r.range(1, 6)).map(|_| any_call(r, &keys, 2, made)).collect();
+            o.calls(&calls);
         }
         let few = r.pick(&[3, 6, 12, 40]);
-        let row: Vec<Call> = (0..r.range(10, 60)).map(|_| any_call(r, &walks, few)).collect();
-        o.calls(&row);
+        let calls: Vec<Call> = (0..r.range(10, 60)).map(|_| any_call(r, &keys, few, made)).collect();
+        o.calls(&calls);
         // a table by hand, of few positions, its total right or any; then a few calls
         for _ in 0..3 {
-            let mut row = vec![];
+            let mut calls = vec![];
             let (mut sum, n) = (0u64, r.range(1, 8));
             for j in 0..n {
                 let (taken, kept) = (!r.chance(3), if r.chance(4) { r.word() } else { r.below(20) as u32 });
                 if taken { sum += kept as u64; }
-                row.push(hand(if r.chance(3) { 255 - j as u32 } else { j as u32 }, taken, 7 + r.below(3), kept));
+                let p = keys[r.below(3) as usize].0 + if r.chance(9) { 1 << 32 } else { 0 };
+                calls.push(hand(if r.chance(3) { 255 - j as u32 } else { j as u32 }, taken, p, kept));
             }
-            if r.chance(8) { row.push(times(256, call(5, 1, if r.chance(2) { 7 } else { 50 }, [r.word(), 1, r.below(9) as u32, 0]))); }
-            row.push(total(match r.below(4) { 0 => r.below(30), 1 => u64::MAX - r.below(30), _ => sum }));
-            for _ in 0..r.range(1, 5) { row.push(any_call(r, &walks, 4)); }
-            o.calls(&row);
+            if r.chance(8) { calls.push(row(256, STRIDE, call(5, 1, if r.chance(2) { keys[0].0 } else { 50 }, [r.word(), 1, r.below(9) as u32, 0]))); }
+            calls.push(total(match r.below(4) { 0 => r.below(30), 1 => u64::MAX - r.below(30), _ => sum }));
+            for _ in 0..r.range(1, 5) { calls.push(any_call(r, &keys, 4, made)); }
+            o.calls(&calls);
         }
         // full and drained
-        if i % 10 == 0 {
-            let (mut row, mut at) = (vec![], 0u64);
-            while at < 256 { let n = r.range(1, 120) as u32; row.push(times(n, add(7 + at, r.pick(&walks)))); at += n as u64; }
-            for _ in 0..r.range(1, 6) { row.push(any_call(r, &walks, 300)); }
-            for _ in 0..r.range(0, 3) { let p = 7 + r.below(260); row.push(times(r.range(1, 40) as u32, remove(p))); row.push(times(r.range(1, 60) as u32, add(p.wrapping_sub(r.below(9)), r.pick(&walks)))); row.push(times(r.range(1, 20) as u32, replace(p, r.pick(&walks)))); }
-            if r.chance(2) { row.push(times(270, remove(7 - r.below(3)))); }
-            row.push(whole());
-            o.calls(&row);
+        if filled {
+            let (mut calls, mut at) = (vec![], 0);
+            while at < 256 { let n = r.range(1, 120); calls.push(row(n as u32, STRIDE, add_key(keys[at]))); at += n; }
+            for _ in 0..r.range(1, 6) { calls.push(any_call(r, &keys, 300, made)); }
+            for _ in 0..r.range(0, 3) {
+                let at = r.pick(&keys);
+                calls.push(row(r.range(1, 40) as u32, STRIDE, remove(at.0)));
+                calls.push(row(r.range(1, 60) as u32, STRIDE, add_key((at.0 - (STRIDE as u64 * r.below(9)).min(at.0 - first as u64), at.1, at.2))));
+                calls.push(row(r.range(1, 20) as u32, STRIDE, replace_key(at)));
+            }
+            if r.chance(2) { calls.push(row(310, STRIDE, remove(keys[0].0))); }
+            calls.push(whole());
+            o.calls(&calls);
         }
     }
 }
+
+/// The positions of a hive's keys.
+fn hive_keys(m: &[u8]) -> Vec<u64> { (4096..m.len().saturating_sub(80)).step_by(8).filter(|&p| &m[p + 4..p + 6] == b"nk").map(|p| p as u64).collect() }
 
 /// Hives: all their keys in one table, and each by itself, some replaced and some removed; as they are and in so many damaged copies.
 fn hive_totals(o: &mut Out<impl Write>, r: &mut Rng, files: &[String], copies: usize) {
     for f in files {
         let whole_file = std::fs::read(f).expect(f);
         let m = &whole_file[..whole_file.len().min(IMAGE_MOST)];
-        let keys: Vec<u64> = (4096..m.len().saturating_sub(80)).step_by(8).filter(|&p| &m[p + 4..p + 6] == b"nk").map(|p| p as u64).collect();
+        let keys = hive_keys(m);
         for copy in 0..=copies {
             o.image(m);
             if copy > 0 {
@@ -2047,22 +2206,23 @@ fn hive_totals(o: &mut Out<impl Write>, r: &mut Rng, files: &[String], copies: u
                 }
                 if r.chance(4) { let n = r.range(4096, m.len()); o.length(n); }
             }
-            let adds: Vec<Call> = keys.iter().map(|&p| add_key(p, 4096, 1024)).collect();
+            let at = |p| (p, 4096, 1024);
+            let adds: Vec<Call> = keys.iter().map(|&p| add_key(at(p))).collect();
             o.calls(&[&adds[..], &[whole()]].concat());
-            let mut row = adds.clone();
+            let mut calls = adds.clone();
             for _ in 0..r.range(4, 30) {
                 let p = r.pick(&keys);
-                row.push(match r.below(5) { 0 | 1 => remove(p), 2 => replace_key(p, 4096, 1024), 3 => add_key(p, 4096, 1024), _ => entry(p) });
+                calls.push(match r.below(5) { 0 | 1 => remove(p), 2 => replace_key(at(p)), 3 => add_key(at(p)), _ => entry(p) });
             }
-            row.push(whole());
-            o.calls(&row);
+            calls.push(whole());
+            o.calls(&calls);
             // the rest of the table with others beside these
-            row.push(times(260, call(0, 1, 1, [4096, 1024, 0, 0])));
-            row.push(add_key(r.pick(&keys), 4096, 1024));
-            if copy % 5 == 0 && (copies > 2 || keys.len() > 20) { o.calls(&row); }
+            if keys.len() < 256 { calls.push(times(256 - keys.len() as u32, call(5, 1, 1, [keys.len() as u32, 1, 0, 0]))); }
+            for _ in 0..3 { calls.push(add_key(at(r.pick(&keys)))); }
+            if copy % 5 == 0 && (copies > 2 || keys.len() > 20) { o.calls(&calls); }
             for _ in 0..6 {
                 let (p, q) = (r.pick(&keys), r.pick(&keys));
-                o.calls(&[add_key(p, 4096, r.pick(&[0, 1, 1024])), add_key(q, 4096, 1024), replace_key(p, r.pick(&[4096, 0, 4096]), 1024), remove(q)]);
+                o.calls(&[add_key((p, 4096, r.pick(&[0, 1, 1024]))), add_key(at(q)), replace_key((p, r.pick(&[4096, 0, 4096]), 1024)), remove(q)]);
             }
         }
     }
@@ -2958,6 +3118,394 @@ fn hive_conversion(o: &mut Out<impl Write>, r: &mut Rng, files: &[String], copie
     }
 }
 
+// ---- a key record that knows its place
+
+/// Where the numbers of a key record stand in its cell, with their widths; the name has them so too, behind 16 bytes. The letters are none.
+const NUMBERS: [(usize, usize); 20] = [(0, 4), (6, 2), (8, 8), (16, 4), (20, 4), (24, 4), (28, 4), (32, 4), (36, 4), (40, 4), (44, 4), (48, 4), (52, 4), (56, 4), (60, 4), (64, 4), (68, 4), (72, 4), (76, 2), (78, 2)];
+/// The functions that take a record with an image, the check by itself first.
+const FUNCTIONS: std::ops::Range<u32> = 0..9;
+
+/// A record as a name holds it: that of an image at a place, read with a base. What the image lacks of its bytes is 0.
+fn taken(m: &[u8], p: usize, base: u32) -> Vec<u8> {
+    let mut cell = m[p.min(m.len())..(p + 80).min(m.len())].to_vec();
+    cell.resize(80, 0);
+    let free = get32(&cell, 0) < 1 << 31;
+    [&(p as u64).to_le_bytes()[..], &base.to_le_bytes(), &(!free as u32).to_le_bytes(), &cell].concat()
+}
+fn at_place(record: &[u8], position: u64) -> Vec<u8> { [&position.to_le_bytes(), &record[8..]].concat() }
+fn with_base(record: &[u8], base: u32) -> Vec<u8> { [&record[..8], &base.to_le_bytes(), &record[12..]].concat() }
+fn flipped(bytes: &[u8], at: usize, bits: u8) -> Vec<u8> { let mut b = bytes.to_vec(); b[at] ^= bits; b }
+/// Other bytes at places of a record, counted in its cell.
+fn changed(record: &[u8], words: &[(usize, u32)]) -> Vec<u8> { let mut b = record.to_vec(); for &(at, x) in words { put32(&mut b, 16 + at, x); } b }
+
+/// What a record is given with beside the image: budget, room, minor version, and the word for the table.
+type Beside = (u32, u32, u32, u32);
+const PLENTY: Beside = (BUDGET, 32, 5, 0);
+
+/// Position of the key of `place_image`, its base, and the text that its lookup finds.
+const KEY: usize = 232;
+const KEY_BASE: u32 = 16;
+const TEXT: &[u8] = b"bC";
+
+/// A key at 232, of a base of 16: an `ri` list of two `lh` lists, of which one entry is dropped, each in an allocated cell of its own; a list of
+/// two values, `A` and `Bc`. Its every number is another. The lists lie before the key, at 16, 64 and 112, the value list at 128, the values at
+/// 144 and 176. With the base of 64 there is an `lh` list in the place of the `ri` list.
+fn place_image() -> Vec<u8> {
+    let mut m = vec![0; 344];
+    list(&mut m, 16, b"ri", &[48, 48], 2);
+    leaf_list(&mut m, 64, b"lh", &[1, 2, u32::MAX - 3, 4], KEY_BASE);
+    put32(&mut m, 128, -16i32 as u32);
+    for (i, x) in [144, 176].into_iter().enumerate() { put32(&mut m, 132 + 4 * i, x - KEY_BASE); }
+    value(&mut m, 144, b"A", 1, -32, [4, 7, 1]);
+    value(&mut m, 176, b"Bc", 1, -32, [5, 8, 2]);
+    made_up(&mut m, KEY, 2, 0);
+    put32(&mut m, KEY, -96i32 as u32);
+    for (at, x) in [(40, 2), (44, 128 - KEY_BASE)] { put32(&mut m, KEY + at, x); }
+    m[KEY + 80..KEY + 96].copy_from_slice(b"a key and slack.");
+    m
+}
+
+/// Records given with an image, and the place of records: each rule on both sides. `more`: what is too much of the same to be stored.
+fn in_place(o: &mut Out<impl Write>, more: bool) {
+    in_place_reads(o, more);
+    in_place_numbers(o, more);
+    in_place_nothing(o, more);
+    in_place_far(o, more);
+    in_place_first(o, more);
+    in_place_walks(o, more);
+    in_place_values(o, more);
+    in_place_names(o, more);
+    record_places(o, more);
+}
+
+/// The same record: in its own image, in one with other bytes in the name, the slack and outside the record, and in one that is shorter or longer.
+fn in_place_reads(o: &mut Out<impl Write>, more: bool) {
+    let m = place_image();
+    let record = taken(&m, KEY, KEY_BASE);
+    o.image(&m);
+    for f in FUNCTIONS.chain([9, 255, 256, 1 << 31, u32::MAX]) {
+        for beside in [PLENTY, (BUDGET, 6, 5, 1), (3, 5, 4, 3), (2, 0, 3, u32::MAX), (0, 1, 0, 2), (1, 2, u32::MAX, 7)] { o.given(f, &record, TEXT, beside); }
+    }
+    for (at, bytes) in [(KEY + 80, &b"other name and s"[..]), (KEY + 80, b"A"), (KEY + 84, b"X"), (KEY + 85, b"s"), (KEY + 95, b"?"), (KEY + 96, b"behind"), (KEY - 1, &[9]), (0, &[7; 16]), (343, &[1])] {
+        o.patch(at, bytes);
+        for f in FUNCTIONS { if more || f % 2 == 0 || at == KEY + 80 { o.given(f, &record, TEXT, PLENTY); } }
+        o.patch(at, &m[at..at + bytes.len()]);
+    }
+    for n in [KEY + 96, KEY + 97, 343] { o.length(n); for f in FUNCTIONS { if more || f < 2 || n == KEY + 96 { o.given(f, &record, TEXT, PLENTY); } } }
+    // other lists and values in the image: the record is the same, and what it leads to is the image's
+    let mut other = m.clone();
+    list(&mut other, 16, b"li", &[9, 8, 7], 3);
+    value(&mut other, 176, b"bc", 0, 32, [6, 9, 3]);
+    o.image(&other);
+    for f in FUNCTIONS { o.given(f, &record, TEXT, PLENTY); o.given(f, &record, b"a", (BUDGET, 2, 2, 1)); }
+    // two alike at two places, and a free one
+    let mut twice = m.clone();
+    twice.resize(450, 0);
+    twice.copy_within(KEY..KEY + 96, 344);
+    o.image(&twice);
+    for f in FUNCTIONS { for p in [KEY, 344] { for q in [KEY, 344, 345] { if more || f % 3 != 2 || p != q { o.given(f, &at_place(&taken(&twice, p, KEY_BASE), q as u64), TEXT, PLENTY); } } } }
+    put32(&mut twice, 344, 96);
+    o.image(&twice);
+    for f in FUNCTIONS { for p in [KEY, 344] { for q in [KEY, 344] { if more || p != q || p == 344 { o.given(f, &at_place(&taken(&twice, p, KEY_BASE), q as u64), TEXT, PLENTY); } } } }
+}
+
+/// One number another, in the record or in the image: by a bit at its low and its high end, with `more` by each bit. The letters of the record
+/// are not read.
+fn in_place_numbers(o: &mut Out<impl Write>, more: bool) {
+    let m = place_image();
+    let record = taken(&m, KEY, KEY_BASE);
+    o.image(&m);
+    let mut bits = vec![];
+    for (i, &(at, width)) in NUMBERS.iter().enumerate() {
+        let all: Vec<usize> = if more { (0..8 * width).collect() } else { vec![0, 8 * width - 1] };
+        for bit in all { bits.push((i, at + bit / 8, 1u8 << (bit % 8))); }
+    }
+    for &(i, at, mask) in &bits {
+        let other = flipped(&record, 16 + at, mask);
+        o.given(0, &other, TEXT, PLENTY);
+        for f in 1..9 { if more || (i as u32 + f) % 4 == 0 && mask == 1 { o.given(f, &other, TEXT, (BUDGET, 32, 5, f % 2)); } }
+        if more { o.given(7, &other, TEXT, (BUDGET, 32, 5, 1)); o.given(8, &other, TEXT, (BUDGET, 32, 5, 1)); }
+        if more || i == 9 { for f in [9, 265, u32::MAX] { o.given(f, &other, TEXT, PLENTY); } }
+    }
+    for &(i, at, mask) in bits.iter().chain(&[(20, 4, 1), (20, 5, 1), (20, 4, 128), (20, 5, 32)]) {
+        o.patch(KEY + at, &[m[KEY + at] ^ mask]);
+        o.given(0, &record, TEXT, PLENTY);
+        for f in 1..9 { if more || (i as u32 + f) % 5 == 0 && mask == 1 { o.given(f, &record, TEXT, (BUDGET, 32, 5, f % 2)); } }
+        // the image's own record, where there is one
+        let own: Vec<u8> = [&record[..16 + at], &[record[16 + at] ^ mask], &record[17 + at..]].concat();
+        if more || mask == 1 { o.given(0, &own, TEXT, PLENTY); }
+        o.patch(KEY + at, &m[KEY + at..KEY + at + 1]);
+    }
+    // the sign of the size, in the record and in the image: it is in two numbers
+    for image_free in [false, true] {
+        put_signed(o, if image_free { 96 } else { -96 });
+        for (size, allocated) in [(-96, 1u32), (-96, 0), (96, 1), (96, 0), (-96, 2), (-96, 1 << 31), (96, 256), (-96, u32::MAX)] {
+            let mut given = record.clone();
+            put32(&mut given, 12, allocated);
+            put32(&mut given, 16, size as u32);
+            for f in FUNCTIONS { if more || f == 0 || allocated < 2 { o.given(f, &given, TEXT, PLENTY); } }
+        }
+    }
+    put_signed(o, -96);
+    for (at, x) in [(20, 0u8), (21, 0), (20, b'v'), (21, 255)] {
+        let mut given = record.clone();
+        given[at] = x;
+        for f in FUNCTIONS { if more || f % 3 == 0 { o.given(f, &given, TEXT, PLENTY); } }
+    }
+    // two numbers changed against each other, in the record: no sum of them tells
+    for (i, &(at, _)) in NUMBERS.iter().enumerate().skip(3).take(if more { 14 } else { 4 }) {
+        let next = NUMBERS[i + 1].0;
+        let (x, y) = (get32(&record, 16 + at), get32(&record, 16 + next));
+        for f in [0, 1, 5] { o.given(f, &changed(&record, &[(at, y), (next, x)]), TEXT, PLENTY); o.given(f, &changed(&record, &[(at, x + 1), (next, y.wrapping_sub(1))]), TEXT, PLENTY); }
+    }
+}
+fn put_signed(o: &mut Out<impl Write>, size: i32) { o.patch(KEY, &size.to_le_bytes()); }
+
+/// A place whose bytes are the record's own and do not read: other letters, a size too small or past the image, a name past its cell, an image
+/// that is too short, and nothing at all.
+fn in_place_nothing(o: &mut Out<impl Write>, more: bool) {
+    let m = place_image();
+    let n = m.len();
+    let rest = (n - KEY) as i32;
+    let mut broken: Vec<(Vec<u8>, usize)> = vec![(vec![0; n], n), (vec![], 0), (m[..KEY].to_vec(), KEY), (m[..KEY - 1].to_vec(), KEY - 1)];
+    for letters in [b"nl", b"mk", b"vk", b"NK", b"kn"] { let mut d = m.clone(); d[KEY + 4..KEY + 6].copy_from_slice(letters); broken.push((d, n)); }
+    for size in [0, 1, -1, 79, -79, 80, -80, 84, -84, 85, -85, rest, -rest, rest + 1, -rest - 1, i32::MAX, i32::MIN, i32::MIN + 1] { let mut d = m.clone(); put32(&mut d, KEY, size as u32); broken.push((d, n)); }
+    for length in [15, 16, 17, 18, 256, u16::MAX] { let mut d = m.clone(); put16(&mut d, KEY + 76, length); broken.push((d, n)); }
+    for left in [0, 1, 4, 6, 79, 80, 95, 96] { broken.push((m.clone(), KEY + left)); }
+    for (i, (d, length)) in broken.iter().enumerate() {
+        o.image(d);
+        o.length(*length);
+        let own = taken(d, KEY, KEY_BASE);
+        for f in FUNCTIONS { if more || f == 0 || (i as u32 + f) % 4 == 0 { o.given(f, &own, TEXT, (BUDGET, 32, 5, f)); } }
+        for f in FUNCTIONS { if more || f == 0 || (i as u32 + f) % 8 == 0 { o.given(f, &taken(&m, KEY, KEY_BASE), TEXT, PLENTY); } }
+    }
+}
+
+/// Positions past the image and far past it, and such that are the key's own where they are cut to fewer bits.
+fn in_place_far(o: &mut Out<impl Write>, more: bool) {
+    let m = place_image();
+    let record = taken(&m, KEY, KEY_BASE);
+    let p = KEY as u64;
+    o.image(&m);
+    for (i, q) in [p - 1, p + 1, p - 8, p + 8, 0, 1, 344, 343, 345, 264, 265, p + 256, p + (1 << 16), p + (1 << 31), p + (1 << 32), p + (1 << 33), p + (1 << 63), p | 0xffff_ffff_0000_0000, p.wrapping_sub(1 << 20), 1 << 32, 1 << 63, u64::MAX - 79, u64::MAX - 1, u64::MAX, p.wrapping_neg()].into_iter().enumerate() {
+        let other = at_place(&record, q);
+        for f in FUNCTIONS { if more || f == 0 || q >> 32 == 1 || (i as u32 + f) % 4 == 0 { o.given(f, &other, TEXT, PLENTY); } }
+        if more || i % 3 == 2 { for f in [7, 8] { o.given(f, &other, TEXT, (BUDGET, 32, 5, 1)); } }
+    }
+    // a key at the image's start, and one that ends it
+    let mut small = m[KEY..KEY + 96].to_vec();
+    o.image(&small);
+    for q in [0, 1, 16, 17, 1 << 32, 1 << 63, u64::MAX] { for f in [0, 1, 5, 7] { o.given(f, &at_place(&taken(&small, 0, 0), q), TEXT, PLENTY); } }
+    small.truncate(95);
+    o.image(&small);
+    for f in FUNCTIONS { o.given(f, &taken(&small, 0, 0), TEXT, PLENTY); }
+}
+
+/// Before all others: each function on a record out of its place that would be refused by another number too, and on one that would succeed
+/// with nothing; beside it the same in its place.
+fn in_place_first(o: &mut Out<impl Write>, more: bool) {
+    let m = place_image();
+    for words in [&[][..], &[(24, 0)], &[(24, 0), (40, 0)], &[(24, (1 << 20) + 1), (40, (1 << 20) + 1)], &[(32, 5000), (44, 5000)], &[(44, 0)], &[(44, u32::MAX)], &[(44, 343)], &[(44, 344)], &[(32, 344)], &[(32, 328)], &[(32, 321)], &[(32, 200)], &[(24, u32::MAX), (40, u32::MAX)], &[(32, u32::MAX)], &[(44, 328)], &[(44, 320)]] {
+        let mut d = m.clone();
+        for &(at, x) in words { put32(&mut d, KEY + at, x); }
+        o.image(&d);
+        let record = taken(&d, KEY, KEY_BASE);
+        for f in 1..9 {
+            for beside in [PLENTY, (BUDGET + 1, 0, 0, 1), (u32::MAX, 32, 5, 0), (0, 0, 5, 1)] {
+                if more || words.is_empty() || beside == PLENTY || f == 8 && beside.0 == 0 { o.given(f, &record, TEXT, beside); }
+                if more || words.is_empty() || beside.0 == BUDGET + 1 && words.len() == 1 || beside.0 == 0 && f % 4 == 1 { o.given(f, &flipped(&record, 16 + 72, 1), TEXT, beside); }
+            }
+        }
+    }
+}
+
+/// Walks from a record in its place: the base is the record's, and each refusal.
+fn in_place_walks(o: &mut Out<impl Write>, more: bool) {
+    let m = place_image();
+    o.image(&m);
+    let record = taken(&m, KEY, KEY_BASE);
+    // another base is no other record: there is another list, or none
+    for base in [0, 8, 15, 17, 64, 63, 16 + 328, 16 + 329, 320, 321, 328, 1 << 31, u32::MAX - 15, u32::MAX] {
+        for f in FUNCTIONS { o.given(f, &with_base(&record, base), TEXT, (BUDGET, 32, 5, (f == 8) as u32)); }
+    }
+    // rooms and budgets on both sides; the versions, and what is no list by them
+    for room in 0..9 { for f in [1, 3] { o.given(f, &record, TEXT, (BUDGET, room, 5, 0)); } }
+    for budget in [0, 1, 2, 3, 4, BUDGET - 1, BUDGET, BUDGET + 1, u32::MAX] { for f in [1, 2, 3, 4, 7, 8] { for c in [0, 1] { if c == 0 || f > 6 { o.given(f, &record, TEXT, (budget, 32, 5, c)); } } } }
+    for minor in MINORS { for f in [1, 2, 3, 4] { o.given(f, &record, TEXT, (BUDGET, 32, minor, 0)); } }
+    for (at, bytes) in [(20, &b"lh"[..]), (20, b"lf"), (20, b"li"), (20, b"lx"), (22, &[0, 0]), (22, &[1, 0]), (22, &[255, 255]), (24, &[0; 4]), (24, &[208, 0, 0, 0]), (24, &[255; 4]), (28, &[0; 4]), (68, b"lf"), (68, b"ri"), (68, b"li"), (70, &[255, 255]), (16, &[0, 0, 0, 0]), (16, &signed(-15)), (16, &signed(16)), (16, &signed(-329)), (64, &signed(-39)), (64, &signed(40)), (64, &signed(i32::MIN))] {
+        o.patch(at, bytes);
+        for f in [1, 2, 3, 4, 7, 8] { for minor in [5, 4, 2] { if (f == 3 || f == 4) && (more || at != 24) || minor == 5 { o.given(f, &record, TEXT, (BUDGET, 32, minor, (f == 8) as u32)); } } }
+        if more { for f in [7, 8] { for c in [0, 1, 2, u32::MAX] { o.given(f, &record, TEXT, (BUDGET, 0, 5, c)); } } }
+        o.patch(at, &m[at..at + bytes.len()]);
+    }
+    // a chain of lists that is too deep, and one that is just not
+    for depth in [8, 9] { for around in [false, true] {
+        let mut d = chain(16, depth, around, b"lh");
+        let p = d.len();
+        d.extend_from_slice(&m[KEY..KEY + 96]);
+        put32(&mut d, p + 24, 1);
+        o.image(&d);
+        for f in [1, 2, 3, 4, 7, 8] { for budget in [7, 8, 9, BUDGET] { if more || f < 3 || budget == BUDGET { o.given(f, &taken(&d, p, KEY_BASE), TEXT, (budget, 32, 5, (f == 8) as u32)); } } }
+    } }
+}
+
+/// Value lists and lookups from a record in its place, each refusal, and the names that are looked for.
+fn in_place_values(o: &mut Out<impl Write>, more: bool) {
+    let m = place_image();
+    o.image(&m);
+    let record = taken(&m, KEY, KEY_BASE);
+    for room in [0, 1, 2, 3, 262_144] { o.given(5, &record, b"", (0, room, 0, 0)); }
+    for text in [&b""[..], b"A", b"a", b"Bc", b"bc", b"BC", b"B", b"Bcd", b"@", b"none"] { o.given(6, &record, text, PLENTY); }
+    for count in [0, 1, 2, 3, 50, 51, 1 << 20, (1 << 20) + 1, u32::MAX] { for offset in [112, 1, 0, 328, 327, 324, 320, 343, 344, 345, 1 << 31, u32::MAX] {
+        if !more && count != 2 && offset != 112 && (count as usize + offset as usize) % 3 > 0 { continue; }
+        let mut d = m.clone();
+        for (at, x) in [(40, count), (44, offset)] { put32(&mut d, KEY + at, x); }
+        o.image(&d);
+        for f in [5, 6] { o.given(f, &taken(&d, KEY, KEY_BASE), TEXT, PLENTY); }
+        if more { for f in [5, 6] { o.given(f, &taken(&d, KEY, 0), TEXT, PLENTY); } }
+    } }
+    // the records of the values: the first that is unreadable decides
+    o.image(&m);
+    for (at, bytes) in [(132, &[255u8; 4][..]), (136, &[255; 4]), (132, &[72, 1, 0, 0]), (136, &[73, 1, 0, 0]), (136, &[49, 1, 0, 0]), (136, &[48, 1, 0, 0]), (144, &[0; 4]), (176, &signed(-23)), (176, &signed(169)), (148, b"vl"), (180, b"nk"), (150, &[9, 0]), (182, &[9, 0]), (182, &[0, 0]), (196, &[0]), (164, &[2])] {
+        o.patch(at, bytes);
+        for text in [&b"a"[..], TEXT, b""] { o.given(6, &record, text, PLENTY); }
+        o.given(5, &record, TEXT, PLENTY);
+        o.patch(at, &m[at..at + bytes.len()]);
+    }
+}
+
+/// Names that hold less than a record, or more: what they lack is 0.
+fn in_place_names(o: &mut Out<impl Write>, more: bool) {
+    // a key at 0 of which the last numbers are 0
+    let mut m = vec![0; 120];
+    close_key(&mut m, 0, -96, 1, 96);
+    list(&mut m, 96, b"li", &[5, 6], 2);
+    o.image(&m);
+    let record = taken(&m, 0, 0);
+    for n in 0..=96 { if more || n < 18 || n % 8 < 2 || n > 88 || (40..53).contains(&n) { o.given(0, &record[..n], b"", PLENTY); if n % 4 == 0 { o.given(2, &record[..n], b"", PLENTY); } } }
+    // a base, a position and a sign alone
+    for (at, x) in [(0, 1), (4, 1), (7, 128), (8, 96), (11, 1), (12, 0), (12, 2), (15, 128)] {
+        let mut given = record.clone();
+        given[at] = x;
+        for f in FUNCTIONS { o.given(f, &given, b"", PLENTY); }
+    }
+    for n in [0, 1, 95] { for f in FUNCTIONS { o.given(f, &record[..n], b"", PLENTY); } }
+    // a key with a value of no name: the name that is looked for is what is behind the record
+    let mut m = place_image();
+    value(&mut m, 144, b"", 1, -32, [4, 7, 1]);
+    o.image(&m);
+    let record = taken(&m, KEY, KEY_BASE);
+    for text in [&b""[..], b"Bc", b"\0", b"bC\0"] { for f in [5, 6] { o.given(f, &record, text, PLENTY); } }
+}
+
+/// The position and the base that a record which is read has, and whether it is in its place: it is.
+fn record_places(o: &mut Out<impl Write>, more: bool) {
+    let m = place_image();
+    o.image(&m);
+    for base in [0, 1, 16, 4096, 1 << 31, u32::MAX] {
+        for p in [KEY as u64, 0, 1, KEY as u64 - 1, KEY as u64 + 1, 264, 265, 343, 344, 345, KEY as u64 + (1 << 32), 1 << 32, KEY as u64 | 1 << 63, u64::MAX - 1, u64::MAX] {
+            if more || base == 16 || p == KEY as u64 { o.place(p, base); }
+        }
+    }
+    for (at, x) in [(0, 0u8), (0, 97), (3, 127), (3, 0), (4, b'v'), (5, 0), (6, 0), (24, 9), (76, 16), (76, 17), (77, 1), (80, 0), (95, 0)] {
+        o.patch(KEY + at, &[x]);
+        o.place(KEY as u64, KEY_BASE);
+        o.patch(KEY + at, &m[KEY + at..KEY + at + 1]);
+    }
+    for left in [0, 1, 79, 80, 95, 96] { o.length(KEY + left); for p in [KEY, KEY + 1, KEY + left] { o.place(p as u64, KEY_BASE); } }
+    let (m, good, bad, fill) = keyed();
+    o.image(&m);
+    for &(p, base, _) in good.iter().chain(&bad) { o.place(p, base); }
+    for i in 0..300 { if more || i % 30 == 0 { o.place(fill + STRIDE as u64 * i, i as u32); } }
+}
+
+/// Random images with lists, values and keys, of at most so many bytes: a record of one of them given with it, with a damaged copy of it and with
+/// another, or damaged itself.
+fn any_place(o: &mut Out<impl Write>, r: &mut Rng, random: u64, most: usize) {
+    for _ in 0..random {
+        let base = r.pick(&[0usize, 2, 16, 32, most / 4]);
+        let (mut m, places) = lists(r, base, most);
+        let lists_end = m.len();
+        let count = r.range(0, 4);
+        let (values, list_at, names) = valued(r, 0, count);
+        // the values' offsets count from where they are put, and their list's from the base
+        let shift = m.len().max(base) - base;
+        m.resize(base + shift, 0);
+        m.extend_from_slice(&values);
+        for i in 0..names.len() { let at = base + shift + list_at as usize + 4 + 4 * i; if at + 4 <= m.len() { let x = get32(&m, at).wrapping_add(shift as u32); put32(&mut m, at, x); } }
+        let mut keys = vec![];
+        for _ in 0..r.range(1, 3) {
+            let (len, spare) = (r.range(0, 12), r.range(0, 12));
+            let p = m.len() + r.range(0, 8);
+            let size = 80 + len + spare;
+            m.resize(p + size, 0);
+            let (name, flags, free) = (r.bytes(len), r.next() as u16, r.chance(3));
+            key(r, &mut m, p, &name, flags, if free { size as i32 } else { -(size as i32) });
+            let list = if places.is_empty() || r.chance(9) { r.range(0, lists_end) as u32 } else { (r.pick(&places) - base) as u32 };
+            for (at, x) in [(24, r.pick(&[0, 1, 1, 2, 7, (1 << 20) + 1])), (32, list), (40, if r.chance(6) { r.below(9) as u32 } else { names.len() as u32 }), (44, if r.chance(8) { r.word() } else { shift as u32 + list_at })] { put32(&mut m, p + at, x); }
+            keys.push(p);
+        }
+        let n = m.len();
+        o.image(&m);
+        for turn in 0..8 {
+            let p = r.pick(&keys);
+            let mut record = taken(&m, p, base as u32);
+            // half of the turns with a damaged image, some with a damaged record, some with another base or place
+            let at = match r.below(4) { 0 => r.range(0, n - 1), 1 => (p + 80 + r.range(0, 24)).min(n - 1), _ => p + r.range(0, 79) };
+            let damaged = turn % 2 == 1;
+            if damaged { let x = if r.chance(3) { r.next() as u8 } else { m[at] ^ (1 << r.below(8)) }; o.patch(at, &[x]); }
+            if r.chance(5) { let at = r.range(0, 95); record = flipped(&record, at, 1 << r.below(8)); }
+            if r.chance(8) { record = at_place(&record, if r.chance(2) { r.pick(&keys) as u64 } else { r.next() >> r.below(64) }); }
+            if r.chance(8) { record = with_base(&record, r.word()); }
+            if r.chance(30) { o.length(r.range(0, n)); }
+            for _ in 0..3 {
+                let text = if names.is_empty() || r.chance(3) { r.bytes(turn % 3) } else { names[r.below(names.len() as u64) as usize].clone() };
+                let budget = match r.below(5) { 0 => r.below(6) as u32, 1 => BUDGET + r.below(2) as u32, _ => BUDGET };
+                let beside = (budget, if r.chance(3) { r.below(9) as u32 } else { ENOUGH }, r.pick(&MINORS), r.word());
+                o.given(r.below(9) as u32, &record, &text, beside);
+            }
+            if turn % 4 == 0 { let q = if r.chance(3) { r.range(0, n + 2) } else { p }; o.place(q as u64 + if r.chance(9) { 1 << 32 } else { 0 }, r.word()); }
+            o.length(n);
+            if damaged { o.patch(at, &m[at..at + 1]); }
+        }
+    }
+}
+
+/// Hives: the record of each key given with the hive it is of, with so many damaged copies of it, and with the other hives.
+fn hive_place(o: &mut Out<impl Write>, r: &mut Rng, files: &[String], copies: usize, more: bool) {
+    let hives: Vec<Vec<u8>> = files.iter().map(|f| { let m = std::fs::read(f).expect(f); m[..m.len().min(IMAGE_MOST)].to_vec() }).collect();
+    for m in &hives {
+        let keys = hive_keys(m);
+        let some: Vec<u64> = if more { keys.clone() } else { keys.iter().copied().step_by(1 + keys.len() / 4).collect() };
+        for copy in 0..=copies {
+            o.image(m);
+            let mut about = r.pick(&some);
+            if copy > 0 {
+                for _ in 0..r.range(1, 3) {
+                    about = r.pick(&some);
+                    let p = about as usize;
+                    let at = match r.below(5) { 0 => p + r.range(0, 5), 1 => r.range(4096, m.len() - 1), 2 => (p + 80 + r.range(0, 20)).min(m.len() - 1), _ => p + r.range(6, 79) };
+                    o.patch(at, &[m[at] ^ (1 << r.below(8))]);
+                }
+                if r.chance(6) { let n = r.range(4096, m.len()); o.length(n); }
+            }
+            for &p in if copy == 0 { &some[..] } else { std::slice::from_ref(&about) } {
+                let record = taken(m, p as usize, 4096);
+                for f in FUNCTIONS { o.given(f, &record, b"", (1024, ENOUGH, r.pick(&[3, 5]), r.below(2) as u32)); }
+                o.place(p, 4096);
+            }
+        }
+        // a record of this hive, and the others
+        for other in &hives {
+            o.image(other);
+            for &p in some.iter().take(if more { 20 } else { 2 }) {
+                let record = taken(m, p as usize, 4096);
+                for f in FUNCTIONS { if more || f % 4 == 0 { o.given(f, &record, b"", (1024, ENOUGH, 5, 1)); } }
+            }
+        }
+    }
+}
+
 // ---- value data
 
 /// A part of a chain that is made wrong: where, and the bytes there.
@@ -3455,8 +4003,8 @@ fn main() {
     let to = BufWriter::with_capacity(1 << 16, std::io::stdout().lock());
     let mut o = Out::new(to, [1; TAGS], 0);
     match (args.first().map(|s| s.as_str()), number(0), number(1)) {
-        (Some("fixed"), _, _) => { boundaries(&mut o); fixed(&mut o); wide(&mut o); long_leaves(&mut o); cells(&mut o, &mut Rng(0), 0); puts(&mut o, &mut Rng(0), 0); leaves(&mut o, &mut Rng(0), 0, 0); data_edges(&mut o, true); steps(&mut o, true); deleted(&mut o, true); letters(&mut o); arriving(&mut o, true); records_between(&mut o, true); short_names(&mut o); totals(&mut o, true); strict(&mut o, true); conversion(&mut o, true) }
-        (Some("hives"), _, Some(seed)) => { hives(&mut o, &mut Rng(seed), &args[2..], 12, 40); hive_bins(&mut o, &mut Rng(seed), &args[2..], 40); hive_parts(&mut o, &mut Rng(seed), &args[2..], 40); hive_totals(&mut o, &mut Rng(seed), &args[2..], 40); hive_strict(&mut o, &mut Rng(seed), &args[2..], 40, true); hive_conversion(&mut o, &mut Rng(seed), &args[2..], 40, true) }
+        (Some("fixed"), _, _) => { boundaries(&mut o); fixed(&mut o); wide(&mut o); long_leaves(&mut o); cells(&mut o, &mut Rng(0), 0); puts(&mut o, &mut Rng(0), 0); leaves(&mut o, &mut Rng(0), 0, 0); data_edges(&mut o, true); steps(&mut o, true); deleted(&mut o, true); letters(&mut o); arriving(&mut o, true); records_between(&mut o, true); short_names(&mut o); totals(&mut o, true); strict(&mut o, true); conversion(&mut o, true); in_place(&mut o, true) }
+        (Some("hives"), _, Some(seed)) => { hives(&mut o, &mut Rng(seed), &args[2..], 12, 40); hive_bins(&mut o, &mut Rng(seed), &args[2..], 40); hive_parts(&mut o, &mut Rng(seed), &args[2..], 40); hive_totals(&mut o, &mut Rng(seed), &args[2..], 40); hive_strict(&mut o, &mut Rng(seed), &args[2..], 40, true); hive_conversion(&mut o, &mut Rng(seed), &args[2..], 40, true); hive_place(&mut o, &mut Rng(seed), &args[2..], 40, true) }
         (Some("stored"), _, Some(seed)) => stored(&mut o, seed, &args[2..], false),
         (Some("stored-parts"), _, Some(seed)) => stored_parts(&mut o, seed, &args[2..]),
         (Some("stored-rust"), _, Some(seed)) => {
@@ -3465,8 +4013,9 @@ fn main() {
         }
         (Some("strict"), _, Some(seed)) => { strict(&mut o, true); any_strict(&mut o, &mut Rng(seed), number(2).unwrap_or(0), USUAL.0) }
         (Some("conversion"), _, Some(seed)) => { conversion(&mut o, true); any_conversion(&mut o, &mut Rng(seed), number(2).unwrap_or(0), USUAL.0) }
-        (_, Some(seed), Some(n)) => { rounds(&mut o, &mut Rng(seed), n, USUAL); cells(&mut o, &mut Rng(seed), 10 * n); puts(&mut o, &mut Rng(seed), 10 * n); leaves(&mut o, &mut Rng(seed), n, USUAL.0); datas(&mut o, &mut Rng(seed), 4 * n); dropping(&mut o, &mut Rng(seed), n, USUAL.0); any_steps(&mut o, &mut Rng(seed), n); any_keys(&mut o, &mut Rng(seed), n); any_letters(&mut o, &mut Rng(seed), 10 * n); any_parts(&mut o, &mut Rng(seed), n); any_totals(&mut o, &mut Rng(seed), n, USUAL.0); any_strict(&mut o, &mut Rng(seed), n, USUAL.0); any_conversion(&mut o, &mut Rng(seed), n, USUAL.0) }
-        _ => { eprintln!("usage: cases fixed | hives SEED FILE.. | stored SEED FILE.. | stored-parts SEED FILE.. | stored-rust SEED MARKS FILE.. | strict SEED ROUNDS | conversion SEED ROUNDS | SEED ROUNDS"); std::process::exit(2) }
+        (Some("place"), _, Some(seed)) => { let n = number(2).unwrap_or(0); totals(&mut o, true); any_totals(&mut o, &mut Rng(seed), n, USUAL.0); in_place(&mut o, true); any_place(&mut o, &mut Rng(seed), n, USUAL.0) }
+        (_, Some(seed), Some(n)) => { rounds(&mut o, &mut Rng(seed), n, USUAL); cells(&mut o, &mut Rng(seed), 10 * n); puts(&mut o, &mut Rng(seed), 10 * n); leaves(&mut o, &mut Rng(seed), n, USUAL.0); datas(&mut o, &mut Rng(seed), 4 * n); dropping(&mut o, &mut Rng(seed), n, USUAL.0); any_steps(&mut o, &mut Rng(seed), n); any_keys(&mut o, &mut Rng(seed), n); any_letters(&mut o, &mut Rng(seed), 10 * n); any_parts(&mut o, &mut Rng(seed), n); any_totals(&mut o, &mut Rng(seed), n, USUAL.0); any_strict(&mut o, &mut Rng(seed), n, USUAL.0); any_conversion(&mut o, &mut Rng(seed), n, USUAL.0); any_place(&mut o, &mut Rng(seed), n, USUAL.0) }
+        _ => { eprintln!("usage: cases fixed | hives SEED FILE.. | stored SEED FILE.. | stored-parts SEED FILE.. | stored-rust SEED MARKS FILE.. | strict SEED ROUNDS | conversion SEED ROUNDS | place SEED ROUNDS | SEED ROUNDS"); std::process::exit(2) }
     }
     o.to.flush().unwrap();
     eprintln!("{} cases", o.cases);

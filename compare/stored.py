@@ -1,6 +1,7 @@
 #!/usr/bin/env python3
 """compare/stored.py SEED HIVE..: what the stored cases are, for compare/STORED.md. Exit 1 where a refusal of a function, or a success or
-a refusal by 9 with entries dropped, or a refusal of a call on a table, or a reason of the strict profile's refusals, or an answer of the way back
+a refusal by 9 with entries dropped, or a refusal of a call on a table or of a function that takes a record with an image, or a number of a record
+that alone is another, or a reason of the strict profile's refusals, or an answer of the way back
 from a list's other kind, is not among them, or where bins in parts end in another answer than the whole check's."""
 import collections
 import os
@@ -14,7 +15,8 @@ NAMES = {1: "checksum", 2: "base block", 3: "`is_big_data_block`", 4: "value lis
          18: "a cell", 19: "a number written", 20: "a record's counts", 21: "a value's data", 22: "a record's value data",
          23: "a step of the reader", 24: "deleted keys", 25: "a step of the bins", 26: "bins in parts", 27: "one part on a record", 28: "totals beside the keys",
          29: "one list, strictly", 30: "subkey walk, strictly", 31: "a record's subkeys, strictly", 32: "a leaf list, strictly",
-         33: "a walk's counts, strictly", 34: "a record's counts, strictly", 35: "an `li` list as `lh`", 36: "an `lh` list as `li`", 37: "there and back"}
+         33: "a walk's counts, strictly", 34: "a record's counts, strictly", 35: "an `li` list as `lh`", 36: "an `lh` list as `li`", 37: "there and back",
+         38: "a record given with an image", 39: "a record's place"}
 # what documents 01 and 02 let each function be refused by
 REFUSALS = {1: [1], 2: [1, 4], 4: [2, 6, 7, 8, 9], 5: [2, 4, 7, 8, 9, 13, 14, 15], 6: [1, 2, 3, 4, 5], 7: [1, 2, 3, 4, 5],
             8: [1, 2, 3, 4, 5, 6, 7, 8, 16], 9: [5], 10: [8, 10, 11], 11: [2, 4, 8], 16: [2, 4, 8, 9],
@@ -23,13 +25,19 @@ REFUSALS = {1: [1], 2: [1, 4], 4: [2, 6, 7, 8, 9], 5: [2, 4, 7, 8, 9, 13, 14, 15
             26: [8, 10, 11, 18], 27: [8, 10, 11, 18],
             29: [2, 3, 4, 8, 20], 30: [2, 3, 4, 7, 8, 9, 13, 15, 20], 31: [1, 2, 3, 4, 5, 7, 8, 9, 13, 15, 20], 32: [2, 3, 4, 8, 9, 20],
             33: [2, 3, 4, 7, 8, 13, 15, 20], 34: [1, 2, 3, 4, 5, 7, 8, 13, 15, 20],
-            35: [1, 2, 3, 4, 5, 8, 9], 36: [2, 4, 8, 9], 37: [1, 2, 3, 4, 5, 8, 9]}
+            35: [1, 2, 3, 4, 5, 8, 9], 36: [2, 4, 8, 9], 37: [1, 2, 3, 4, 5, 8, 9], 39: [1, 2, 3, 4, 5]}
 # why the strict profile refuses a list by 20 and by 3; one leaf list is named by no `ri` list
 REASONS = {20: ["kind", "`ri` under `ri`"], 3: ["not negative", "too small", "past the image"]}
-# the calls on a table of totals, and what 02 lets each be refused by: a key record's own refusals come first where it is read
+# the calls on a table of totals, and what 02 lets each be refused by: a key record's own refusals come first where it is read, and one that is
+# made up may be in its place or not
 WALKED, READ = [2, 4, 7, 8, 13, 14, 15], [1, 2, 3, 4, 5]
-CALLS = {0: ("a key added", WALKED + [9, 19]), 8: ("the same, its record read", READ + [7, 8, 9, 13, 14, 15, 19]), 1: ("replaced", WALKED + [16]),
-         9: ("the same, its record read", READ + [7, 8, 13, 14, 15, 16]), 2: ("removed", [16]), 3: ("an entry read", [16]), 4: ("the total", [])}
+CALLS = {8: ("a key added", sorted({*READ, *WALKED, 9, 19})), 0: ("the same, its record made up", WALKED + [9, 19, 21]), 9: ("replaced", sorted({*READ, *WALKED, 16})),
+         1: ("the same, its record made up", WALKED + [16, 21]), 2: ("removed", [16]), 3: ("an entry read", [16]), 4: ("the total", [])}
+# the functions that take a record with an image, by the word of tag 38 that says which, and what each is refused by
+STRICTLY = [2, 3, 4, 7, 8, 13, 15, 20]
+GIVEN = {0: ("the check by itself", []), 1: ("its subkeys", WALKED + [9, 21]), 2: ("their counts", WALKED + [21]), 3: ("its subkeys, strictly", STRICTLY + [9, 21]),
+         4: ("their counts, strictly", STRICTLY + [21]), 5: ("its value list", [2, 6, 7, 8, 9, 21]), 6: ("a lookup", [1, 2, 3, 4, 5, 6, 7, 8, 16, 21]),
+         7: ("added to a table", WALKED + [19, 21]), 8: ("replaced in a table", WALKED + [16, 21])}
 # where an `ok` line of each function that drops entries tells how many; where a refusal by 9 does, and which of them have a buffer
 DROPPED, DROPPED_BY_9, WITH_ROOM = {5: 5, 14: 5, 16: 4, 17: 5, 20: 5, 30: 5, 31: 5, 32: 4, 33: 5, 34: 5}, 7, (5, 14, 16, 30, 31, 32)
 
@@ -77,6 +85,30 @@ def rows_of_calls(crate):
                 for kind, told, _ in calls:
                     counts[kind]["ok" if told[0] == "ok" else told[1]] += 1
     return counts, by_calls
+
+
+def out_of_place(image, key):
+    """The names of the numbers in which a record is another than the one that its place has; None where that has none."""
+    try:
+        there = reader.key_at(image, key.position, key.base)
+    except reader.Refused:
+        return None
+    return [name for name, x, y in zip(key._fields, key, there) if x != y]
+
+
+def records_given(crate):
+    """Of the records given with an image, for each function what it is answered; how many are in their place, how many are where no record is, and
+    of those where another is and a single number differs, which it is; by function."""
+    counts, others = collections.defaultdict(collections.Counter), collections.defaultdict(collections.Counter)
+    with open(f"crates/{crate}/stdin", "rb") as stdin, open(f"crates/{crate}/stdout") as stdout:
+        for (tag, _, function, _, _, _, name, image), line in zip(reader.cases(stdin.read), stdout):
+            if tag == 38:
+                function = function if function in GIVEN else 0
+                words = line.split()
+                counts[function]["ok" if words[1] == "ok" else int(words[2])] += 1
+                differs = out_of_place(image, reader.given(name)[0])
+                others[function]["nothing" if differs is None else "same" if not differs else differs[0] if len(differs) == 1 else "several"] += 1
+    return counts, others
 
 
 def why_refused(tag, a, b, c, d, e, name, image):
@@ -156,6 +188,13 @@ whole, before, unequal, rows, kinds, undecided = rows_of_parts("replay_parts")
 missing += [("bins in parts", why) for why, bad in (("unequal to the whole check", unequal), ("with two answers", undecided), ("whole", not whole)) if bad]
 calls, by_calls = rows_of_calls("replay_parts")
 missing += [(CALLS[k][0], n) for k in CALLS for n in ["ok"] + CALLS[k][1] if not calls[k][n]]
+given, others = records_given("replay_parts")
+# the position and the base are the record's own: the one says where to look, the other how to read
+numbers = reader.Key._fields[2:]
+missing += [(f"{NAMES[38]}, {GIVEN[f][0]}", n) for f in GIVEN for n in ["ok"] + GIVEN[f][1] if not given[f][n]]
+missing += [(f"{NAMES[38]}, {GIVEN[f][0]}", why) for f in GIVEN for why in ("same", "nothing") if not others[f][why]]
+missing += [(f"{NAMES[38]}, the check", f"another {n}") for n in numbers if not others[0][n]]
+missing += [(f"{NAMES[38]}, {GIVEN[f][0]}", "another number") for f in GIVEN if not any(others[f][n] for n in numbers)]
 whys = reasons("replay_parts")
 missing += [(NAMES[t], f"{n}: {why}") for t in reader.STRICT for n in REASONS for why in REASONS[n] if not whys[t][n, why] and (t, why) != (32, "`ri` under `ri`")]
 back, other = trips("replay_parts")
@@ -195,12 +234,15 @@ A cell is told in {tells[23]["cell"]} steps of the reader, the end in {tells[23]
 ## crates/replay_parts: {total(parts):,} cases, {size("replay_parts") // 1000} KB, answers of compare/paper.py
 
 Bins as they arrive: the stored cases of "bins and cells" again, cut in parts, each rule on both sides, random and damaged bins, hives; and one
-part on records of any numbers, whose refusals may be of any number too. Totals beside the keys: rows of calls, each refusal on both sides
-and before each other, full tables, places used again, tables that no call made, random rows, the keys of hives. The strict profile: each rule
+part on records of any numbers, whose refusals may be of any number too. The strict profile: each rule
 on both sides, alone, at the top and below it, each refusal before each other, random images, hives. Lists written anew, `li` as `lh` and `lh` as
 `li`: each refusal of an entry at the first, in the middle and at the last, two of them in either order, sums that wrap to a key, names of bytes and
-of units, up to 65,535 entries, rooms on both sides, random and damaged images, hives. A program by itself, since `rt try`, by
-which `compare/slips` runs them, takes no more than a megabyte of output from one.
+of units, up to 65,535 entries, rooms on both sides, random and damaged images, hives. Totals beside the keys: rows of calls, each refusal on both
+sides and before each other, full tables, places used again, tables that no call made, records that are made up and stand in the image or do not, random
+rows, the keys of hives. Records that know their place: one given with its own image, with one that has other bytes in the name, the slack and
+elsewhere, with one in which a single number is another, each in turn, with one where no record is, and with positions past the image and far past
+it; each function, with what else would refuse it; random and damaged images and records, hives. A program by itself, since `rt try`, by which
+`compare/slips` runs them, takes no more than a megabyte of output from one.
 
 | Function | Cases | Success | Refused by number: cases |
 |---|---|---|---|""")
@@ -210,6 +252,9 @@ as_ordinary = total(strict) - sum(n for c in whys.values() for why, n in c.items
 said = "; ".join(f"by {n} " + ", ".join(f"{why} {sum(c[n, why] for c in whys.values()):,}" for why in REASONS[n]) for n in REASONS)
 beside = ", ".join(f"{NAMES[t]} {sum(parts[t].values()):,}" for t in sorted(set(reader.STRICT.values())))
 calls_table = "\n".join(f"| {CALLS[k][0]} | {sum(calls[k].values()):,} | {calls[k]['ok']:,} | {', '.join(f'{n}: {calls[k][n]:,}' for n in sorted(n for n in calls[k] if n != 'ok'))} |" for k in CALLS)
+given_table = "\n".join(
+    f"| {GIVEN[f][0]} | {sum(given[f].values()):,} | {given[f]['ok']:,} | {', '.join(f'{n}: {given[f][n]:,}' for n in sorted(n for n in given[f] if n != 'ok'))} "
+    f"| {others[f]['same']:,} | {others[f]['nothing']:,} | {sum(others[f][n] for n in numbers):,} | {others[f]['several']:,} |" for f in GIVEN)
 print(f"""
 {whole:,} rows of parts have just the bins' bytes, and {before:,} others, of a size that an image can have, are refused by 10 or 11: each ends in the answer that the whole check gives on these bytes.
 {rows:,} rows with at least one part and none past the end have {kinds:,} different bytes, bases and sizes: whatever their cuts, all that are alike in these end in one answer.
@@ -221,6 +266,14 @@ The {parts[28]["ok"]:,} rows of calls by what each call was answered:
 {calls_table}
 
 {by_calls:,} of the rows leave a table that calls alone made: there the paper's reading holds the stored total, after each call, to the sum over the entries. The others write places or the total by hand.
+
+The {sum(parts[38].values()):,} records given with an image by the function that takes them; in its place is a record whose every number the place has:
+
+| Function | Cases | Success | Refused by number: cases | In its place | No record there | One number another | Several |
+|---|---|---|---|---|---|---|---|
+{given_table}
+
+Of the {sum(others[0][n] for n in numbers):,} that the check by itself finds another by one number, each of a record's {len(numbers)} numbers behind position and base is that one at least {min(others[0][n] for n in numbers)} times.
 
 Of the {total(strict):,} strict cases so many are refused for a reason that is the strict profile's own: {said}. The other {as_ordinary:,} have the ordinary reading's answer, success or refusal: `paper.py` holds each to it.
 Entries are dropped in so many successes, and refusals by 9: {", ".join(dropped[t] for t in dropped if t > 28)}.

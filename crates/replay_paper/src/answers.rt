@@ -6,8 +6,13 @@ use super::lines;
 use super::lines::refused;
 use super::lines::room_refused;
 use super::parts;
+use super::place;
 use super::places;
 use super::totals;
+use super::values;
+use super::values::lookup_line;
+use super::values::value_fields;
+use super::values::values_line;
 use super::walks;
 use super::walks::joined;
 use base_block::BaseBlock;
@@ -19,9 +24,6 @@ use cell::CellAnswer;
 use cell::CellSize;
 use cell_key_node::KeyAnswer;
 use cell_key_node::KeyNode;
-use cell_key_node::ValueListAnswer;
-use cell_key_value::KeyValue;
-use cell_key_value::LookupAnswer;
 use cell_key_value::ValueAnswer;
 use deleted_keys::DeletedAnswer;
 use hive_bin::Spot;
@@ -116,20 +118,6 @@ fn as_signed(x: u32) -> i32 {
     words::i32_at(&bytes, 0)
 }
 
-fn values_line(answer: ValueListAnswer, out: &[u32]) {
-    match answer {
-        ValueListAnswer::Listed(count) => {
-            lines::text(b" ok");
-            lines::word(count);
-            places::written(out, count);
-        }
-        ValueListAnswer::Refused(refusal) => {
-            room_refused(refusal);
-            places::untouched(out, 0);
-        }
-    }
-}
-
 fn values(image: &[u8], case: Case, out: &mut [u32]) {
     places::prefill(out);
     let answer = cell_key_node::value_list(image, case.c, case.a, as_signed(case.b), out);
@@ -137,12 +125,8 @@ fn values(image: &[u8], case: Case, out: &mut [u32]) {
 }
 
 fn values_of(image: &[u8], case: Case, out: &mut [u32]) {
-    match cell_key_node::read_key_node(image, case.a as usize) {
-        KeyAnswer::Key(key) => {
-            places::prefill(out);
-            let answer = cell_key_node::value_list_of(image, case.c, key, out);
-            values_line(answer, out);
-        }
+    match cell_key_node::read_key_node(image, case.a as usize, case.c) {
+        KeyAnswer::Key(key) => values::values_of(image, key, out),
         KeyAnswer::Refused(refusal) => refused(refusal),
     }
 }
@@ -171,10 +155,10 @@ fn key_fields(key: KeyNode) {
     lines::half(key.class_name_size);
 }
 
-fn key(image: &[u8], position: usize) {
+fn key(image: &[u8], position: usize, base: u32) {
     let name = cell_key_node::key_name(image, position);
     let slack = cell_key_node::key_slack(image, position);
-    match cell_key_node::read_key_node(image, position) {
+    match cell_key_node::read_key_node(image, position, base) {
         KeyAnswer::Key(key) => {
             lines::text(b" ok");
             key_fields(key);
@@ -187,16 +171,6 @@ fn key(image: &[u8], position: usize) {
             size(slack.len());
         }
     }
-}
-
-fn value_fields(value: KeyValue) {
-    lines::signed(value.size);
-    lines::flag(value.allocated);
-    lines::half(value.value_name_size);
-    lines::word(value.data_size_raw);
-    lines::word(value.data_offset_relative);
-    lines::word(value.data_type_raw);
-    lines::half(value.flags_raw);
 }
 
 fn value(image: &[u8], position: usize) {
@@ -214,29 +188,14 @@ fn value(image: &[u8], position: usize) {
     }
 }
 
-fn lookup_line(answer: LookupAnswer) {
-    match answer {
-        LookupAnswer::Found(found) => {
-            lines::text(b" ok");
-            size(found.position);
-            let value = found.value;
-            value_fields(value);
-        }
-        LookupAnswer::Refused(refusal) => refused(refusal),
-    }
-}
-
 fn lookup(image: &[u8], case: Case, name: &[u8]) {
     let answer = cell_key_value::find_value(image, case.c, case.a, as_signed(case.b), name);
     lookup_line(answer);
 }
 
 fn lookup_of(image: &[u8], case: Case, name: &[u8]) {
-    match cell_key_node::read_key_node(image, case.a as usize) {
-        KeyAnswer::Key(key) => {
-            let answer = cell_key_value::find_value_of(image, case.c, key, name);
-            lookup_line(answer);
-        }
+    match cell_key_node::read_key_node(image, case.a as usize, case.c) {
+        KeyAnswer::Key(key) => values::lookup_of(image, key, name),
         KeyAnswer::Refused(refusal) => refused(refusal),
     }
 }
@@ -425,7 +384,7 @@ pub fn answer(tag: u8, case: Case, image: &[u8], name: &[u8], out: &mut [u32]) {
         3 => big_data(image),
         4 | 13 => with_room(tag, case, image, out),
         5 | 11 | 14 | 16 | 17 | 20 | 29..=34 => walks::answer(tag, case, image, name, out),
-        6 => key(image, case.a as usize),
+        6 => key(image, case.a as usize, case.c),
         7 => value(image, case.a as usize),
         8 => lookup(image, case, name),
         9 => hash((case.a % 65536) as u16, image),
@@ -442,6 +401,8 @@ pub fn answer(tag: u8, case: Case, image: &[u8], name: &[u8], out: &mut [u32]) {
         27 => parts::one_part(case, image, name),
         28 => totals::row_of_calls(image, name),
         35..=37 => conversion::answer(tag, case, image, name),
+        38 => place::with_record(case, image, name, out),
+        39 => place::record_place(case, image),
         _ => lines::text(b" none"),
     }
 }

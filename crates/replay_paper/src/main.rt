@@ -6,9 +6,11 @@ mod bytes;
 mod conversion;
 mod lines;
 mod parts;
+mod place;
 mod places;
 mod stream;
 mod totals;
+mod values;
 mod walks;
 
 fn main() {

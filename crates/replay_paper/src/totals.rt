@@ -88,18 +88,20 @@ fn call_in(bytes: &[u8]) -> Call {
     }
 }
 
-// A key record of a count and a list, each other field with a number of its own.
-fn made_up(count: u32, list: u32) -> KeyNode {
+// The record of a position, a base, a count and a list, each other field with a number of its own: one that can stand in an image.
+fn made_up(call: Call, position: usize) -> KeyNode {
     KeyNode {
-        size: -4001,
+        position,
+        base: call.base,
+        size: -88,
         allocated: true,
         key_node_flag_bits: 4002,
         last_key_written_time: 4003,
         access_flag_bits: 4004,
         parent_key_offset_relative: 4005,
-        number_of_sub_keys: count,
+        number_of_sub_keys: call.count,
         number_of_volatile_sub_keys: 4006,
-        sub_keys_list_offset_relative: list,
+        sub_keys_list_offset_relative: call.list,
         volatile_sub_keys_list_offset_relative: 4007,
         number_of_key_values: 4008,
         key_values_list_offset_relative: 4009,
@@ -110,7 +112,7 @@ fn made_up(count: u32, list: u32) -> KeyNode {
         largest_value_name_size: 4014,
         largest_value_data_size: 4015,
         work_var: 4016,
-        key_name_size: 4017,
+        key_name_size: 5,
         class_name_size: 4018,
     }
 }
@@ -139,12 +141,12 @@ fn unasked(table: Totals) -> Made {
     }
 }
 
-fn added(table: Totals, image: &[u8], call: Call, position: usize, key: KeyNode) -> Made {
-    changed(key_totals::add(table, image, call.base, position, key, call.budget))
+fn added(table: Totals, image: &[u8], call: Call, key: KeyNode) -> Made {
+    changed(key_totals::add(table, image, key, call.budget))
 }
 
-fn replaced(table: Totals, image: &[u8], call: Call, position: usize, key: KeyNode) -> Made {
-    changed(key_totals::replace(table, image, call.base, position, key, call.budget))
+fn replaced(table: Totals, image: &[u8], call: Call, key: KeyNode) -> Made {
+    changed(key_totals::replace(table, image, key, call.budget))
 }
 
 // The key record at the position is refused, and no call is made.
@@ -164,12 +166,12 @@ fn unread(table: Totals, refusal: Refusal) -> Made {
 
 // Adding, or replacing, with the key record at the position.
 fn by_record(table: Totals, image: &[u8], call: Call, position: usize) -> Made {
-    match cell_key_node::read_key_node(image, position) {
+    match cell_key_node::read_key_node(image, position, call.base) {
         KeyAnswer::Key(key) => {
             if call.kind == 8 {
-                added(table, image, call, position, key)
+                added(table, image, call, key)
             } else {
-                replaced(table, image, call, position, key)
+                replaced(table, image, call, key)
             }
         }
         KeyAnswer::Refused(refusal) => unread(table, refusal),
@@ -197,14 +199,24 @@ fn with_total(table: Totals, total: u64) -> Made {
     unasked(next)
 }
 
-// A call the k-th time.
-fn asked(table: Totals, image: &[u8], call: Call, k: u32) -> Made {
-    let total = std::num::wrapping_add_u64(call.position, k as u64);
+// How far the positions of a call lie apart: the word of the list, which a record that is made up has for itself, and 1 where it is 0.
+fn step_of(call: Call) -> u64 {
+    if call.kind < 2 {
+        return 1;
+    }
+    if call.list == 0 {
+        return 1;
+    }
+    call.list as u64
+}
+
+// A call with a position, which is the total where that is written by hand.
+fn asked(table: Totals, image: &[u8], call: Call, total: u64) -> Made {
     let position = total as usize;
     let kind = call.kind;
     match kind {
-        0 => added(table, image, call, position, made_up(call.count, call.list)),
-        1 => replaced(table, image, call, position, made_up(call.count, call.list)),
+        0 => added(table, image, call, made_up(call, position)),
+        1 => replaced(table, image, call, made_up(call, position)),
         2 => changed(key_totals::remove(table, position)),
         3 => entry(table, position),
         4 => sum(table),
@@ -293,11 +305,11 @@ fn counted(tally: Tally, said: Said, total: u64) -> Tally {
     }
 }
 
-// The place that a call writes by hand the k-th time.
-fn by_hand(call: Call, k: u32) -> Place {
+// The place that a call writes by hand, with a position.
+fn by_hand(call: Call, position: u64) -> Place {
     Place {
         taken: call.budget % 2 == 1,
-        position: std::num::wrapping_add_u64(call.position, k as u64) as usize,
+        position: position as usize,
         kept: call.count,
     }
 }
@@ -305,17 +317,20 @@ fn by_hand(call: Call, k: u32) -> Place {
 // Places written by hand, as many as the call says.
 fn laid(table: Totals, call: Call) -> Totals {
     let mut next = table;
+    let step = step_of(call);
+    let mut position = call.position;
     let mut k: u32 = 0;
     while k < call.times {
-        let place = by_hand(call, k);
+        let place = by_hand(call, position);
         let i = (std::num::wrapping_add_u32(call.base, k) % 256) as usize;
         next.places[i] = place;
+        position = std::num::wrapping_add_u64(position, step);
         k += 1;
     }
     next
 }
 
-// A call as many times as it says.
+// A call as many times as it says, its positions a step apart.
 fn repeated(row: Row, image: &[u8], call: Call) -> Row {
     let mut table = row.table;
     let mut tally = row.tally;
@@ -325,12 +340,15 @@ fn repeated(row: Row, image: &[u8], call: Call) -> Row {
             tally,
         };
     }
+    let step = step_of(call);
+    let mut position = call.position;
     let mut k: u32 = 0;
     while k < call.times {
-        let after = asked(table, image, call, k);
+        let after = asked(table, image, call, position);
         let said = after.said;
         table = after.table;
         tally = counted(tally, said, table.total);
+        position = std::num::wrapping_add_u64(position, step);
         k += 1;
     }
     Row { table, tally }
@@ -410,6 +428,47 @@ fn table_line(table: Totals) {
     let sums = seen.sums;
     lines::number(sums.plain);
     lines::number(sums.running);
+}
+
+fn kept_line(answer: KeptAnswer) {
+    match answer {
+        KeptAnswer::Kept(kept) => {
+            lines::text(b" ok");
+            lines::word(kept);
+        }
+        KeptAnswer::Refused(refusal) => walk_refused(refusal),
+    }
+}
+
+// A table whose first place has a position and a number, written by hand.
+fn with_one(position: usize, kept: u32) -> Totals {
+    let mut table = key_totals::empty();
+    table.places[0] = Place {
+        position,
+        kept,
+        taken: true,
+    };
+    table.total = kept as u64;
+    table
+}
+
+// An entry added or replaced by itself, in an empty table, or for an odd number in one whose first place has it with the record's position: the
+// answer, and the table.
+pub fn one_call(adding: bool, image: &[u8], key: KeyNode, budget: u32, number: u32) {
+    let table = if number % 2 == 1 {
+        with_one(key.position, number)
+    } else {
+        key_totals::empty()
+    };
+    let after = if adding {
+        key_totals::add(table, image, key, budget)
+    } else {
+        key_totals::replace(table, image, key, budget)
+    };
+    let answer = after.answer;
+    kept_line(answer);
+    let left = after.table;
+    table_line(left);
 }
 
 fn first_line(first: First) {

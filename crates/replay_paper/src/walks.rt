@@ -102,17 +102,32 @@ fn walk(tag: u8, case: Case, image: &[u8], name: &[u8], out: &mut [u32]) {
     walk_line(answer, out);
 }
 
-fn walked_of(tag: u8, case: Case, image: &[u8], key: KeyNode, out: &mut [u32]) -> WalkAnswer {
-    if tag == 14 {
-        cell_key_node::sub_keys_of(image, case.c, key, case.d, out)
+fn walked_of(
+    strict: bool,
+    image: &[u8],
+    key: KeyNode,
+    budget: u32,
+    minor: u32,
+    out: &mut [u32],
+) -> WalkAnswer {
+    if strict {
+        key_in_place::strict_sub_keys_of(image, key, budget, minor, out)
     } else {
-        cell_key_node::strict_sub_keys_of(image, case.c, key, case.d, case.b, out)
+        key_in_place::sub_keys_of(image, key, budget, out)
     }
 }
 
-fn walk_of(tag: u8, case: Case, image: &[u8], key: KeyNode, out: &mut [u32]) {
+// From a key record, which is held to its place.
+pub fn walk_of(
+    strict: bool,
+    image: &[u8],
+    key: KeyNode,
+    budget: u32,
+    minor: u32,
+    out: &mut [u32],
+) {
     places::prefill(out);
-    let answer = walked_of(tag, case, image, key, out);
+    let answer = walked_of(strict, image, key, budget, minor, out);
     walk_line(answer, out);
 }
 
@@ -141,20 +156,20 @@ fn counts(tag: u8, case: Case, image: &[u8]) {
     counts_line(answer);
 }
 
-fn counts_of(tag: u8, case: Case, image: &[u8], key: KeyNode) {
-    let answer = if tag == 20 {
-        cell_key_node::sub_key_counts_of(image, case.c, key, case.d)
+pub fn counts_of(strict: bool, image: &[u8], key: KeyNode, budget: u32, minor: u32) {
+    let answer = if strict {
+        key_in_place::strict_sub_key_counts_of(image, key, budget, minor)
     } else {
-        cell_key_node::strict_sub_key_counts_of(image, case.c, key, case.d, case.b)
+        key_in_place::sub_key_counts_of(image, key, budget)
     };
     counts_line(answer);
 }
 
 fn by_record(tag: u8, case: Case, image: &[u8], out: &mut [u32]) {
-    match cell_key_node::read_key_node(image, case.a as usize) {
+    match cell_key_node::read_key_node(image, case.a as usize, case.c) {
         KeyAnswer::Key(key) => match tag {
-            14 | 31 => walk_of(tag, case, image, key, out),
-            _ => counts_of(tag, case, image, key),
+            14 | 31 => walk_of(tag == 31, image, key, case.d, case.b, out),
+            _ => counts_of(tag == 34, image, key, case.d, case.b),
         },
         KeyAnswer::Refused(refusal) => refused(refusal),
     }

@@ -158,10 +158,10 @@ fn key_fields(key: KeyNode) {
     lines::half(key.class_name_size);
 }
 
-fn key(image: &[u8], position: usize) {
+fn key(image: &[u8], position: usize, base: u32) {
     let name = cell_key_node::key_name(image, position);
     let slack = cell_key_node::key_slack(image, position);
-    match cell_key_node::read_key_node(image, position) {
+    match cell_key_node::read_key_node(image, position, base) {
         KeyAnswer::Key(key) => {
             lines::text(b" ok");
             key_fields(key);
@@ -231,7 +231,7 @@ pub fn answer(tag: u8, case: Case, image: &[u8], _name: &[u8], out: &mut [u32]) 
         3 => big_data(image),
         4 => with_room(tag, case, image, out, case.d),
         5 => with_room(tag, case, image, out, case.e),
-        6 => key(image, case.a as usize),
+        6 => key(image, case.a as usize, case.c),
         7 => value(image, case.a as usize),
         11 => list(image, case.a as usize),
         _ => lines::text(b" none"),

@@ -1923,7 +1923,11 @@ fn totals(o: &mut Out<impl Write>, more: bool) {
     // no call, and the empty table
     o.calls(&[]);
     for kind in [2, 3, 4, 5, 6, 7, 10, 11, u32::MAX] { for n in [0, 1, 2] { o.calls(&[call(kind, n, 7, [3, 1, 9, 0]), whole()]); } }
-    for &at in &all { o.calls(&[add_key(at), entry(at.0), whole()]); o.calls(&[replace_key(at)]); }
+    for &at in &all {
+        o.calls(&[add_key(at), entry(at.0), whole()]);
+        o.calls(&[replace_key(at)]);
+        o.calls(&[hand(1, true, at.0, 9), total(9), replace_key(at), add_key(at)]);
+    }
     // one key, then each call on it and beside it: 19 and 16 before what the walk refuses, and another number in its place
     for &first in &others[..if more { 5 } else { 1 }] {
         for &second in &others {

@@ -69,7 +69,13 @@ pub fn with_record(case: Case, image: &[u8], name: &[u8], out: &mut [u32]) {
         lines::text(b" bad room");
         return;
     }
-    given(case, image, record_in(name), words::from(name, RECORD), &mut out[0..n]);
+    given(
+        case,
+        image,
+        record_in(name),
+        words::from(name, RECORD),
+        &mut out[0..n],
+    );
 }
 
 fn place_line(image: &[u8], key: KeyNode) {

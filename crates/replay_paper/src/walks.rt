@@ -118,14 +118,7 @@ fn walked_of(
 }
 
 // From a key record, which is held to its place.
-pub fn walk_of(
-    strict: bool,
-    image: &[u8],
-    key: KeyNode,
-    budget: u32,
-    minor: u32,
-    out: &mut [u32],
-) {
+pub fn walk_of(strict: bool, image: &[u8], key: KeyNode, budget: u32, minor: u32, out: &mut [u32]) {
     places::prefill(out);
     let answer = walked_of(strict, image, key, budget, minor, out);
     walk_line(answer, out);

@@ -4,10 +4,13 @@ use Rattle.replay_paper.proofs.totals.laid.Statement.{statement}
 use Rattle.replay_paper.proofs.totals.laid.Tie as tie
 
 abbrev Inv-loop : tie.InvT-loop
-Inv-loop call next₀ k₀ next k = k ≤ call .times
+Inv-loop call next₀ step position₀ k₀ next position k = k ≤ call .times
 
 abbrev μ-loop : tie.MeasureT-loop
-μ-loop call next₀ k₀ next k = call .times - k
+μ-loop call next₀ step position₀ k₀ next position k = call .times - k
+
+step-of-requires : tie.Need-step-of-requires Inv-loop μ-loop
+step-of-requires c κs = search needs
 
 loop-holds : tie.Need-loop-holds Inv-loop μ-loop
 loop-holds c = search needs
@@ -27,6 +30,9 @@ mul-place c = search needs
 element-set-from-place : tie.Need-element-set-from-place Inv-loop μ-loop
 element-set-from-place c = search needs
 
+wrapping-add-u64-requires : tie.Need-wrapping-add-u64-requires Inv-loop μ-loop
+wrapping-add-u64-requires c κs = search needs
+
 add-k : tie.Need-add-k Inv-loop μ-loop
 add-k c = search needs
 
@@ -45,12 +51,14 @@ laid-spec =
     (tie.spec
     Inv-loop
     μ-loop
+    step-of-requires
     loop-holds
     by-hand-requires
     wrapping-add-u32-requires
     cast-i
     mul-place
     element-set-from-place
+    wrapping-add-u64-requires
     add-k
     loop-less
     loop-again

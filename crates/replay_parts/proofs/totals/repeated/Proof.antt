@@ -4,16 +4,19 @@ use Rattle.replay_parts.proofs.totals.repeated.Statement.{statement}
 use Rattle.replay_parts.proofs.totals.repeated.Tie as tie
 
 abbrev Inv-loop : tie.InvT-loop
-Inv-loop image call table₀ tally₀ k₀ table tally k = k ≤ call .times
+Inv-loop image call table₀ tally₀ step position₀ k₀ table tally position k = k ≤ call .times
 
 abbrev μ-loop : tie.MeasureT-loop
-μ-loop image call table₀ tally₀ k₀ table tally k = call .times - k
+μ-loop image call table₀ tally₀ step position₀ k₀ table tally position k = call .times - k
 
 laid-requires : tie.Need-laid-requires Inv-loop μ-loop
 laid-requires c κs = search needs
 
 returns : tie.Need-returns Inv-loop μ-loop
 returns c = search needs
+
+step-of-requires : tie.Need-step-of-requires Inv-loop μ-loop
+step-of-requires c κs = search needs
 
 loop-holds : tie.Need-loop-holds Inv-loop μ-loop
 loop-holds c = search needs
@@ -23,6 +26,9 @@ asked-requires c κs = search needs
 
 counted-requires : tie.Need-counted-requires Inv-loop μ-loop
 counted-requires c κs = search needs
+
+wrapping-add-u64-requires : tie.Need-wrapping-add-u64-requires Inv-loop μ-loop
+wrapping-add-u64-requires c κs = search needs
 
 add-k : tie.Need-add-k Inv-loop μ-loop
 add-k c = search needs
@@ -44,9 +50,11 @@ repeated-spec =
     μ-loop
     laid-requires
     returns
+    step-of-requires
     loop-holds
     asked-requires
     counted-requires
+    wrapping-add-u64-requires
     add-k
     loop-less
     loop-again

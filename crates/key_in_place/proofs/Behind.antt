@@ -7,7 +7,8 @@ use Rattle.words.specs.Refusals.{OTHER-PLACE}
 use Rattle.words.specs.Paper.{Paper, refused, by}
 use Rattle.words.specs.Buffers.{bufferAfter, Answered}
 use Rattle.cell_key_node.specs.declared.KeyNode.{KeyNode}
-use Rattle.key_in_place.specs.Place.{inPlace, behind}
+use Rattle.key_in_place.specs.Place.{ReadsAs, inPlace, behind}
+use Rattle.key_in_place.proofs.Place.{in-place}
 
 module _ (image : List ℕ) (key : KeyNode) {A : Type 0} where
   -- the record stands there: the answer is the one below
@@ -19,6 +20,14 @@ module _ (image : List ℕ) (key : KeyNode) {A : Type 0} where
   pub elsewhere : (a : Paper A) → inPlace image key ≡ false → behind image key a ≡ refused (by OTHER-PLACE 0)
   unfolding behind
   elsewhere a e = simp e
+
+-- a record that does not read as itself does not pass
+pub not-here : (image : List ℕ) (key : KeyNode) → (ReadsAs image key → ⊥) → inPlace image key ≡ false
+not-here image key n = go (inPlace image key) refl
+  where
+    go : (b : Bool) → inPlace image key ≡ b → b ≡ false
+    go true e = absurd (n (in-place image key .0 e))
+    go false e = refl
 
 -- the code's test, which is turned: `b` is what it found
 pub found-here : (b : Bool) {c : Bool} → b ≡ c → not b ≡ false → c ≡ true
@@ -38,9 +47,9 @@ module _ (image : List ℕ) (key : KeyNode) {b : Bool} (e : b ≡ inPlace image 
 
   -- the same of an answer with its buffer
   module _ {B : Type 0} where
-    pub answered-here : not b ≡ false → {said right : Paper A} {ks old new : List B} → Answered said right ks old new
+    pub answered-here : not b ≡ false → {said : Paper A} (right : Paper A) (ks old : List B) {new : List B} → Answered said right ks old new
         → Answered said (behind image key right) ks old new
-    answered-here f {right = right} {ks = ks} {old = old} x = record {
+    answered-here f right ks old x = record {
       answer = tested-here f right (x .answer);
       buffer = x .buffer ∙ ap (λ (a : Paper A). bufferAfter a ks old) (sym (here image key right (found-here b e f)));
     }

@@ -2,7 +2,6 @@
 use mathlib.Core.Path.{_≡_, refl, ap, sym, subst, _∙_}
 use mathlib.Core.Logic.{_↔_}
 use mathlib.Core.List.{List}
-use mathlib.Core.Bool.{Bool, true, false}
 use Prim.Native.Nat.{ℕ}
 use Rattle.words.specs.Refusals.{OTHER-PLACE}
 use Rattle.words.specs.Paper.{Paper, success, refused, by}
@@ -19,7 +18,7 @@ use Rattle.cell_key_node.proofs.Keys.{key-stands}
 use Rattle.key_in_place.specs.Place.{ReadsAs, inPlace, behind}
 use Rattle.key_in_place.specs.Demands.{Passes, Demands, Refuses, Untouched, Refused21}
 use Rattle.key_in_place.proofs.Place.{in-place}
-use Rattle.key_in_place.proofs.Behind.{here, elsewhere}
+use Rattle.key_in_place.proofs.Behind.{here, elsewhere, not-here}
 use Rattle.key_in_place.proofs.Never.{Other, measured-never, answer-never, strict-never, strict-answer-never, values-never, lookup-never}
 use Rattle.key_in_place.proofs.Same.{reads-same}
 
@@ -75,11 +74,7 @@ module _ (s : List ℕ) (key : KeyNode) (reads : ReadsAs s key) where
 
 module _ (s : List ℕ) (key : KeyNode) where
   refuses : {A : Type 0} {said : Paper A} (right : Paper A) → said ≡ behind s key right → (ReadsAs s key → ⊥) → Refuses said
-  refuses {A} {said} right x n = go (inPlace s key) refl
-    where
-      go : (b : Bool) → inPlace s key ≡ b → Refuses said
-      go true e = absurd (n (in-place s key .0 e))
-      go false e = x ∙ elsewhere s key right e
+  refuses right x n = x ∙ elsewhere s key right (not-here s key n)
 
   refuses-no-other : {A : Type 0} {said : Paper A} (right : Paper A) → Every Other right → said ≡ behind s key right → Refuses said → ReadsAs s key → ⊥
   refuses-no-other right never x f reads = never (by OTHER-PLACE 0) (sym (only-right s key reads right x) ∙ f) refl

@@ -33,6 +33,7 @@ use Rattle.key_totals.specs.Rows.{one, entriesIn, Entry, Once, Long, Sum
 use Rattle.key_totals.proofs.Places.{same-or-not, first-before, first-is, first-none, first-same}
 use Rattle.key_totals.proofs.Sums.{laid-long, laid-same, laid-other, laid-total, laid-exact, laid-summed}
 use Rattle.key_totals.proofs.Calls.{number-nowhere, number-there}
+use Rattle.key_totals.proofs.OtherPlace.{other-place}
 use Rattle.key_totals.proofs.Entries.{suits-entry, entry-suits, free-entry, same-position, place-entry, free-taken, nowhere}
 
 -- ---- a call is refused, or it changes one place
@@ -340,6 +341,7 @@ gives-at s t (remove p) n h = number-in s t p n h
 pub calls : (s : List ℕ) → Bytes s → (t : Totals) (c : Call) (r : Changed) → Long t → Answers s t c r → Called s t c r
 calls s b t c r l a =
     record {
+      other-place = other-place s t c r a;
       refused = unchanged s t c r a;
       changes = λ n q. (changing s t c r a n q .1 .inside, changing s t c r a n q .0);
       gives = λ n q. gives-at s t c n (changing s t c r a n q .1);

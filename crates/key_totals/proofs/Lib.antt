@@ -1,6 +1,7 @@
 pub mod Places
 pub mod Sums
 pub mod Calls
+pub mod OtherPlace
 pub mod Papers
 pub mod Entries
 pub mod Changes

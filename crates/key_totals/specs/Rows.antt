@@ -7,7 +7,7 @@ use mathlib.Core.List.{List, [], _∷_}
 use mathlib.Core.Bool.{true, false, cond}
 use lib.Dec.{eqb}
 use lib.ListN.{length, getD}
-use Rattle.words.specs.Refusals.{NOT-FOUND}
+use Rattle.words.specs.Refusals.{NOT-FOUND, OTHER-PLACE}
 use Rattle.words.specs.Paper.{Paper, success, refused, by}
 use Rattle.sub_key_walk.specs.declared.Counts.{Counts}
 use Rattle.sub_key_walk.specs.declared.WalkRefusal.{WalkRefusal}
@@ -21,7 +21,7 @@ use Rattle.key_totals.specs.declared.Place.{Place}
 use Rattle.key_totals.specs.declared.Totals.{Totals}
 use Rattle.key_totals.specs.declared.KeptAnswer.the-variants.{Kept, Refused}
 use Rattle.key_totals.specs.declared.Changed.{Changed}
-use Rattle.key_totals.specs.Table.{PLACES, free, entry, none, countedIn, laid, Outcome, placeOf, freeOf, numberIn, addOf, replaceOf, removeOf, numberOf, changedPaper}
+use Rattle.key_totals.specs.Table.{PLACES, free, entry, none, countedIn, laid, Outcome, placeOf, freeOf, numberIn, addOf, replaceOf, removeOf, numberOf, keptPaper, changedPaper}
 
 -- ---- "the sum over the entries", and their number
 
@@ -178,6 +178,12 @@ Gives s t (add key budget) n = Walked s key budget n
 Gives s t (replace key budget) n = Walked s key budget n
 Gives s t (remove p) n = numberOf t p ≡ success n
 
+-- a call with a key record that does not read as itself in the image
+abbrev pub Elsewhere : List ℕ → Call → Type 0
+Elsewhere s (add key budget) = ReadsAs s key → ⊥
+Elsewhere s (replace key budget) = ReadsAs s key → ⊥
+Elsewhere s (remove p) = ⊥
+
 -- ---- one call on any table
 
 -- Where the definitions ask for a place: a key has one exactly if it is in the table, and none is free exactly if there are 256 entries.
@@ -191,6 +197,8 @@ pub record Finds (t : Totals) : Type 0 where
 
 -- `r` is what the call `c` answers
 pub record Called (s : List ℕ) (t : Totals) (c : Call) (r : Changed) : Type 0 where
+  -- "21 OTHER PLACE, before all others": exactly where the key record does not stand in the image
+  pub other-place : Elsewhere s c ↔ (keptPaper (r .answer) ≡ refused (by OTHER-PLACE 0))
   -- "A refused call changes nothing."
   pub refused : (f : WalkRefusal) → r .answer ≡ Refused f → r .table ≡ t
   -- one that succeeds changes one place, and says where its number comes from

@@ -32,7 +32,9 @@ same-length c = search needs
 returns-2 : tie.Need-returns-2
 returns-2 c =
     let a = c .before .before .before .before .before .before .before .before .args in
-    answered-here (a .image .now) (a .key) (c .before .before .before .before .before .is-in-place .ensures) (c .before .before .before .before .if1 .left) (c .before .before .strict-sub-keys .ensures)
+    answered-here (a .image .now) (a .key) (c .before .before .before .before .before .is-in-place .ensures) (c .before .before .before .before .if1 .left)
+    (strictAnswerOf (a .image .now) (a .key .base) (a .key .«number_of_sub_keys») (a .key .«sub_keys_list_offset_relative») (a .budget) (a .minor) (length (a .out .now)))
+    (strictKeptBy (a .image .now) (a .key .base) (a .key .«number_of_sub_keys») (a .key .«sub_keys_list_offset_relative») (a .minor)) (a .out .now) (c .before .before .strict-sub-keys .ensures)
 
 pub strict-sub-keys-of-spec : {M : Type 1} → statement M
 strict-sub-keys-of-spec =

@@ -31,6 +31,8 @@ returns-2 : tie.Need-returns-2
 returns-2 c =
     let a = c .before .before .before .before .before .before .before .before .before .args in
     answered-here (a .image .now) (a .key) (c .before .before .before .before .before .before .is-in-place .ensures) (c .before .before .before .before .before .if1 .left)
+    (valueListOf (a .image .now) (a .key .base) (a .key .«number_of_key_values») (a .key .«key_values_list_offset_relative») (length (a .out .now)))
+    (entriesOf (a .image .now) (a .key .base) (a .key .«number_of_key_values») (a .key .«key_values_list_offset_relative»)) (a .out .now)
     (rw (back (a .key .«key_values_list_offset_relative») (search needs)) at (c .before .before .value-list .ensures))
 
 pub value-list-of-spec : {M : Type 1} → statement M

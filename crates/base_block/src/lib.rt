@@ -1,4 +1,5 @@
 // The base block of a hive, its first 4,096 bytes, and its checksum.
+#![tactic(auto)]
 ghost use Rattle.std.specs.Prelude.{◌≡◌, ◌*◌, ◌≤◌, length};
 ghost use Rattle.words.specs.Parts.{Part};
 ghost use Rattle.base_block.specs.Checksum.{xor_of, mended, checksum_of};
@@ -8,7 +9,7 @@ ghost use Rattle.base_block.specs.Sheets.{LaidOut, Folded};
 
 use words::Refusal;
 
-#[derive(Drop)]
+#[derive(Clone, Copy)]
 pub enum Checksum {
     Sum(u32),
     Refused(Refusal),
@@ -84,7 +85,7 @@ pub fn calculate_checksum(bytes: &[u8]) -> Checksum
     Checksum::Sum(mend(xor_words(bytes)))
 }
 
-#[derive(Drop)]
+#[derive(Clone, Copy)]
 pub enum FileType {
     Primary,
     TransactionLog,
@@ -92,14 +93,14 @@ pub enum FileType {
     UnknownType,
 }
 
-#[derive(Drop)]
+#[derive(Clone, Copy)]
 pub enum FileFormat {
     DirectMemoryLoad,
     UnknownFormat,
 }
 
 // The fields of a base block that are numbers. Times are raw; a kind stands beside its raw number.
-#[derive(Drop)]
+#[derive(Clone, Copy)]
 pub struct BaseBlock {
     pub primary_sequence_number: u32,
     pub secondary_sequence_number: u32,
@@ -125,7 +126,7 @@ pub struct BaseBlock {
 // The length of a base block.
 const BLOCK_SIZE: usize = 4096;
 
-#[derive(Drop)]
+#[derive(Clone, Copy)]
 pub enum BlockAnswer {
     Block(BaseBlock),
     Refused(Refusal),

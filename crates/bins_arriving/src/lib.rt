@@ -1,5 +1,6 @@
 // Bins as they arrive (document 02, order 6): the check of bins and cells over parts that come one after another. What is known between
 // two parts is a small record by value; no part is kept, and the inside of a cell is passed over by counting.
+#![tactic(auto)]
 ghost use Rattle.std.specs.Prelude.{◌≡◌, ◌+◌, ◌-◌, ◌≤◌, ◌<◌, length};
 ghost use Rattle.hive_bin.specs.Totals.{one_bin};
 ghost use Rattle.hive_bin.specs.Answers.{bins_paper};
@@ -19,7 +20,7 @@ const JUDGED: usize = 12;
 const MOST: usize = 0xFFFF_FFFF_FFFF_FFFF;
 
 // What is known of the bins after some parts. Places count from the base.
-#[derive(Drop)]
+#[derive(Clone, Copy)]
 pub struct BinsSoFar {
     // where the bins begin in the image, and their size
     pub base: u32,

@@ -35,7 +35,7 @@ fn is_refused(state: BinsSoFar) -> bool {
 }
 
 // What is known of the bins when no more is read, and whether that is because a read failed.
-#[derive(Drop)]
+#[derive(Clone, Copy)]
 struct Arrived {
     state: BinsSoFar,
     failed: bool,

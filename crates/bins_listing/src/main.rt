@@ -1,4 +1,5 @@
 // Lists the bins of one hive of any size: standard input, 4 KiB at a time, to lines on standard output (`./list --bins`).
+#![tactic(auto)]
 mod bins;
 mod console;
 mod totals;

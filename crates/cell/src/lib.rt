@@ -1,4 +1,5 @@
 // A cell at a position: whether it lies in the image, and whether it is large enough for what a reader wants of it.
+#![tactic(auto)]
 ghost use Rattle.std.specs.Prelude.{◌≡◌};
 ghost use Rattle.words.specs.Paper.{refused, by};
 ghost use Rattle.cell.specs.Cells.{size_at, cell_at, cell_paper};
@@ -9,14 +10,14 @@ use words::Refusal;
 const SIZE_WORD: usize = 4;
 
 // What a cell's size word says: its magnitude, which counts the size word itself, and whether the cell is allocated.
-#[derive(Drop)]
+#[derive(Clone, Copy)]
 pub struct CellSize {
     pub magnitude: u32,
     pub allocated: bool,
 }
 
 // A cell of at least so many bytes, a cell that is too small, or why there is none.
-#[derive(Drop)]
+#[derive(Clone, Copy)]
 pub enum CellAnswer {
     Held(CellSize),
     TooSmall(CellSize),

@@ -1,4 +1,5 @@
 // Big data cells.
+#![tactic(auto)]
 ghost use Rattle.std.specs.Prelude.{◌≡◌};
 ghost use Rattle.cell_big_data.specs.Big.{is_big_data_block};
 

@@ -1,5 +1,6 @@
 // Key records: the record at a position, its name and its slack as parts of the image, and its value list by plain
 // numbers. The checks of a record are shared with the value records.
+#![tactic(auto)]
 ghost use Rattle.std.specs.Prelude.{◌≡◌, ◌≤◌, ◌++◌, length, drop};
 ghost use Rattle.words.specs.Paper.{verdict_paper};
 ghost use Rattle.words.specs.Parts.{Part};
@@ -19,7 +20,7 @@ const NAME_SIZE_AT: usize = 76;
 
 // A key record: where it stands in the image, and the base that offsets are relative to; then its numbers, in the order in which they
 // stand. `allocated` is the sign of its size.
-#[derive(Drop)]
+#[derive(Clone, Copy)]
 pub struct KeyNode {
     pub position: usize,
     pub base: u32,
@@ -47,14 +48,14 @@ pub struct KeyNode {
 }
 
 // The record, or why there is none.
-#[derive(Drop)]
+#[derive(Clone, Copy)]
 pub enum KeyAnswer {
     Key(KeyNode),
     Refused(Refusal),
 }
 
 // Nothing for a count of 0, the position of a value list, or why there is none.
-#[derive(Drop)]
+#[derive(Clone, Copy)]
 pub enum PlaceAnswer {
     Nothing,
     Place(usize),
@@ -62,7 +63,7 @@ pub enum PlaceAnswer {
 }
 
 // The number of entries written, or why there are none.
-#[derive(Drop)]
+#[derive(Clone, Copy)]
 pub enum ValueListAnswer {
     Listed(u32),
     Refused(RoomRefusal),

@@ -1,4 +1,5 @@
 // Value records: the record at a position, its name as a part of the image, and the lookup of a value by its name.
+#![tactic(auto)]
 ghost use Rattle.std.specs.Prelude.{◌≡◌};
 ghost use Rattle.words.specs.Parts.{Part};
 ghost use Rattle.cell_key_node.specs.ValueList.{up_to, entry_of};
@@ -17,7 +18,7 @@ const SIGNATURE: u16 = 0x6B76;
 const NAME_SIZE_AT: usize = 6;
 
 // A value record's numbers, in the order in which they stand; `allocated` is the sign of its size.
-#[derive(Drop)]
+#[derive(Clone, Copy)]
 pub struct KeyValue {
     pub size: i32,
     pub allocated: bool,
@@ -29,21 +30,21 @@ pub struct KeyValue {
 }
 
 // The record, or why there is none.
-#[derive(Drop)]
+#[derive(Clone, Copy)]
 pub enum ValueAnswer {
     Value(KeyValue),
     Refused(Refusal),
 }
 
 // A value record that was looked for, and its position.
-#[derive(Drop)]
+#[derive(Clone, Copy)]
 pub struct FoundValue {
     pub value: KeyValue,
     pub position: usize,
 }
 
 // The value that was looked for, or why there is none.
-#[derive(Drop)]
+#[derive(Clone, Copy)]
 pub enum LookupAnswer {
     Found(FoundValue),
     Refused(Refusal),

@@ -1,13 +1,14 @@
 // A reader that stands on one cell of the lent bins and tells the cell and the next place (document 02, order 4). It is a struct of the
 // bins and a spot. The checker's own walk covers no function over a struct that holds a slice, so the proofs of these are written by hand, and each is
 // thin: the work is `hive_bin::step_at`. Whoever calls `tell` needs no such proof.
+#![tactic(auto)]
 ghost use Rattle.std.specs.Prelude.{◌≡◌};
 ghost use Rattle.hive_bin.specs.Steps.{step_at, step_paper};
 
 use hive_bin::{Spot, Step};
 
 // The bins, and where in them the reader stands.
-#[derive(Drop)]
+#[derive(Clone, Copy)]
 pub struct CellReader<'a> {
     pub bins: &'a [u8],
     pub spot: Spot,

@@ -1,4 +1,5 @@
 // Lists the deleted keys of one hive: standard input to lines on standard output (`./list --deleted`).
+#![tactic(auto)]
 mod console;
 mod deleted;
 

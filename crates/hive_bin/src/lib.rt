@@ -1,4 +1,5 @@
 // Bins and cells: the bins of a hive checked, each with its cells, and totalled; and a step from cell to cell of them.
+#![tactic(auto)]
 ghost use Rattle.std.specs.Prelude.{◌≡◌, ◌+◌, ◌-◌, ◌≤◌, length};
 ghost use Rattle.hive_bin.specs.Walk.{row, cell_row, cell_size, header_size, bin_size, bins_in};
 ghost use Rattle.hive_bin.specs.Totals.{no_totals, one_bin, cell_totals, together, Room, answer_of, bins_of};
@@ -9,7 +10,7 @@ ghost use Rattle.words.specs.Paper.{refused, by};
 use words::Refusal;
 
 // How many bins there are, how many cells of each kind, and the bytes of these cells, their size words included.
-#[derive(Drop)]
+#[derive(Clone, Copy)]
 pub struct BinTotals {
     pub bins: usize,
     pub allocated_cells: usize,
@@ -18,7 +19,7 @@ pub struct BinTotals {
     pub free_bytes: usize,
 }
 
-#[derive(Drop)]
+#[derive(Clone, Copy)]
 pub enum BinsAnswer {
     Totals(BinTotals),
     Refused(Refusal),
@@ -26,14 +27,14 @@ pub enum BinsAnswer {
 
 // Where a reader of cells stands: the start of a bin, and a place in it. The place of the bin's own start stands for its first cell;
 // where the bins end there, for their end. A reader begins at 0, 0.
-#[derive(Drop)]
+#[derive(Clone, Copy)]
 pub struct Spot {
     pub bin: usize,
     pub place: usize,
 }
 
 // A cell: its place, its size word, which is negative where it is allocated, and where the next one stands.
-#[derive(Drop)]
+#[derive(Clone, Copy)]
 pub struct CellStep {
     pub place: usize,
     pub size: i32,
@@ -41,7 +42,7 @@ pub struct CellStep {
 }
 
 // A cell, that none is left, or why there is none.
-#[derive(Drop)]
+#[derive(Clone, Copy)]
 pub enum Step {
     Cell(CellStep),
     End,

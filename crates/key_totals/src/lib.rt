@@ -1,5 +1,6 @@
 // Totals beside the keys (document 02, order 7): a table of up to 256 keys of one image, each with the number of its subkeys, and the sum of
 // these numbers stored beside them. It goes in by value and comes back with the answer; nothing is walked to read it.
+#![tactic(auto)]
 ghost use Rattle.std.specs.Prelude.{◌≡◌, ◌<◌};
 ghost use Rattle.words.specs.Refusals.{OTHER_PLACE};
 ghost use Rattle.words.specs.Paper.{tell, by};
@@ -16,7 +17,7 @@ const PLACES: usize = 256;
 const NEEDED: u32 = 257;
 
 // A place: a key's position in the image and the number of its subkeys, or free.
-#[derive(Drop)]
+#[derive(Clone, Copy)]
 pub struct Place {
     pub position: usize,
     pub kept: u32,
@@ -24,28 +25,28 @@ pub struct Place {
 }
 
 // The table: its places, and the sum of the numbers of those that are taken.
-#[derive(Drop)]
+#[derive(Clone, Copy)]
 pub struct Totals {
     pub places: [Place; 256],
     pub total: u64,
 }
 
 // The number of a key's subkeys, or the refusal.
-#[derive(Drop)]
+#[derive(Clone, Copy)]
 pub enum KeptAnswer {
     Kept(u32),
     Refused(WalkRefusal),
 }
 
 // The table after a call, and what the call answers.
-#[derive(Drop)]
+#[derive(Clone, Copy)]
 pub struct Changed {
     pub table: Totals,
     pub answer: KeptAnswer,
 }
 
 // What is looked for in a table: a free place, or that of the key at a position.
-#[derive(Drop)]
+#[derive(Clone, Copy)]
 enum Wanted {
     Free,
     Key(usize),

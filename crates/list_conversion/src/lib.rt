@@ -1,5 +1,6 @@
 // Subkey lists written anew: an `li` list as an allocated `lh` cell, and an `lh` list as an allocated `li` cell. Every function takes any
 // list, position, image, base and buffer. All is judged first and written after: a refusal changes no byte of the buffer.
+#![tactic(auto)]
 ghost use Rattle.std.specs.Prelude.{◌≡◌, ◌+◌, ◌*◌, ◌-◌, ◌≤◌, length};
 ghost use Rattle.words.specs.Refusals.{BAD_SIGN};
 ghost use Rattle.words.specs.Paper.{refused, by, told, verdict_paper};
@@ -29,14 +30,14 @@ const HEADER: usize = 8;
 const ADDRESSES: usize = 4294967296;
 
 // The bytes of the cell that is written, or why none is.
-#[derive(Drop)]
+#[derive(Clone, Copy)]
 pub enum ConversionAnswer {
     Written(u32),
     Refused(RoomRefusal),
 }
 
 // How many entries a list has, or why it is not taken.
-#[derive(Drop)]
+#[derive(Clone, Copy)]
 enum CountAnswer {
     Count(u16),
     Refused(Refusal),

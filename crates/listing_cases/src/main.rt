@@ -1,4 +1,5 @@
 // The listing of the hives in data/, one after another, each under its label: the modules are the listing program's own.
+#![tactic(auto)]
 mod console;
 mod listing;
 mod totals;

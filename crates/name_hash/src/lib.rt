@@ -1,4 +1,5 @@
 // The hash of a key's name, as `lh` lists store it beside each key's offset.
+#![tactic(auto)]
 ghost use Rattle.std.specs.Prelude.{◌≡◌, ◌+◌, ◌*◌, ◌%◌, ◌^◌};
 ghost use Rattle.name_hash.specs.Characters.{between, upper_of, character_of};
 ghost use Rattle.name_hash.specs.Hash.{hash_of, name_hash_of, hash_paper};
@@ -6,7 +7,7 @@ ghost use Rattle.name_hash.specs.Hash.{hash_of, name_hash_of, hash_paper};
 use words::Refusal;
 
 // The hash, or why there is none.
-#[derive(Drop)]
+#[derive(Clone, Copy)]
 pub enum HashAnswer {
     Hash(u32),
     Refused(Refusal),

@@ -1,12 +1,13 @@
 // What the replaying programs share: the words of a case of the stream (compare/README.md), and the sums by which a row of numbers
 // is told.
+#![tactic(auto)]
 ghost use Rattle.std.specs.Prelude.{◌≡◌, length};
 ghost use Rattle.words.specs.Words.{byte_at};
 ghost use Rattle.replay_case.specs.Case.{fresh, renewed};
 ghost use Rattle.replay_case.specs.Sums.{one_more, sums_of, place_at};
 
 // A case's five words, and the lengths of its name and its image.
-#[derive(Drop)]
+#[derive(Clone, Copy)]
 pub struct Case {
     pub a: u32,
     pub b: u32,
@@ -18,7 +19,7 @@ pub struct Case {
 }
 
 // A row's sum, and the sum of its running sums, both in 64 bits.
-#[derive(Drop)]
+#[derive(Clone, Copy)]
 pub struct Sums {
     pub plain: u64,
     pub running: u64,

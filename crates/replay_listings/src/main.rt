@@ -1,6 +1,7 @@
 // Replays the part of the stored cases (compare/README.md) that is about listings of a key's subkeys, checked and written: a whole line for
 // each, of what the project's functions answer. The stored cases have the answers of document 02 as compare/paper.py reads it. What is not in
 // answers.rt is replay_paper's, by a link: that program answers these cases too, and here they have a stored output of their own.
+#![tactic(auto)]
 mod answers;
 mod bytes;
 mod lines;

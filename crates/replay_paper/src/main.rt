@@ -1,5 +1,6 @@
 // Replays a stream of cases (compare/README.md): a whole line for each, of what the project's functions answer. The stored cases
 // have the answers of document 01 as compare/paper.py reads it.
+#![tactic(auto)]
 mod answers;
 mod buffers;
 mod bytes;

@@ -8,7 +8,7 @@ const PATCH: u8 = 100;
 const LENGTH: u8 = 101;
 
 // What a case leaves for the next one, or the end of the run.
-#[derive(Drop)]
+#[derive(Clone, Copy)]
 enum Next {
     Go(Case),
     Stop,

@@ -11,7 +11,7 @@ const FEW: u64 = 4;
 
 // A row while its parts come: the bins so far, where the next part begins in the image, how many parts have come and after how many of
 // them nothing was refused, and the sums of what each was answered.
-#[derive(Drop)]
+#[derive(Clone, Copy)]
 struct Row {
     so_far: BinsSoFar,
     at: usize,

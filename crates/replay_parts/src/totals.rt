@@ -16,7 +16,7 @@ const CALL: usize = 32;
 const PLACES: usize = 256;
 
 // A call as a name has it.
-#[derive(Drop)]
+#[derive(Clone, Copy)]
 struct Call {
     kind: u32,
     times: u32,
@@ -28,7 +28,7 @@ struct Call {
 }
 
 // What a call is answered; nothing where no call is made.
-#[derive(Drop)]
+#[derive(Clone, Copy)]
 enum Said {
     Number(u64),
     Refused(WalkRefusal),
@@ -36,14 +36,14 @@ enum Said {
 }
 
 // The table after a call, and what it is answered.
-#[derive(Drop)]
+#[derive(Clone, Copy)]
 struct Made {
     table: Totals,
     said: Said,
 }
 
 // The first four answers of a row.
-#[derive(Drop)]
+#[derive(Clone, Copy)]
 struct First {
     one: Said,
     two: Said,
@@ -52,7 +52,7 @@ struct First {
 }
 
 // What is told of a row's calls: how many were answered, how many of them succeeded, the sums of the answers, and the first of them.
-#[derive(Drop)]
+#[derive(Clone, Copy)]
 struct Tally {
     calls: u64,
     good: u64,
@@ -61,7 +61,7 @@ struct Tally {
 }
 
 // The table after a row of calls, and what is told of them.
-#[derive(Drop)]
+#[derive(Clone, Copy)]
 struct Row {
     table: Totals,
     tally: Tally,
@@ -389,7 +389,7 @@ fn all_calls(image: &[u8], name: &[u8]) -> Row {
 }
 
 // How many of the places so far are taken, and the sums of their numbers.
-#[derive(Drop)]
+#[derive(Clone, Copy)]
 struct Seen {
     taken: u64,
     sums: Sums,

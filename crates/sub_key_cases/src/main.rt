@@ -1,6 +1,7 @@
 // Walks small images and writes a line for each: what is tried, then `read` with offsets kept, lists, entries and those dropped, or
 // `refused` with number, position, lists, places, entries and those dropped, and behind `|` every place of the buffer, which held 7 in
 // each before.
+#![tactic(auto)]
 ghost use Rattle.std.specs.Prelude.{◌≤◌};
 
 use sub_key_walk::WalkAnswer;

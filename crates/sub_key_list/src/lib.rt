@@ -1,4 +1,5 @@
 // One subkey list: what stands at a position, taken apart by kind. Every function takes any image and any position.
+#![tactic(auto)]
 ghost use Rattle.std.specs.Prelude.{◌≡◌, length, ◌+◌, ◌-◌, ◌*◌, ◌≤◌};
 ghost use Rattle.words.specs.Words.{word16};
 ghost use Rattle.words.specs.Paper.{refused, by, and_then, verdict_paper};
@@ -18,7 +19,7 @@ pub const LI: u16 = 0x696c;
 const RI: u16 = 0x6972;
 
 // A leaf list: its kind, the bytes that an entry takes, and how many entries it has.
-#[derive(Drop)]
+#[derive(Clone, Copy)]
 pub struct LeafList {
     pub signature: u16,
     pub entry_size: u8,
@@ -26,13 +27,13 @@ pub struct LeafList {
 }
 
 // An `ri` list: how many lists it names.
-#[derive(Drop)]
+#[derive(Clone, Copy)]
 pub struct IndexList {
     pub count: u16,
 }
 
 // What stands at a position: a leaf list, an index of lists, or why no list can be read there.
-#[derive(Drop)]
+#[derive(Clone, Copy)]
 pub enum SubKeyList {
     Leaf(LeafList),
     Index(IndexList),

@@ -1,5 +1,6 @@
 // Listings of a key's subkeys, as another tool delivers them (document 02, order 12): one is checked against the walk, or written. The
 // walk is measured first; then it goes once more through the lists, beside the listing's records. Nothing is copied in between.
+#![tactic(auto)]
 ghost use Rattle.std.specs.Prelude.{◌≡◌, [], true, ◌+◌, ◌*◌, ◌≤◌, length};
 ghost use Rattle.words.specs.Paper.{refused, by};
 ghost use Rattle.sub_key_list.specs.Leaves.{keep, leaf_kept};
@@ -30,14 +31,14 @@ const RECORD: usize = 10;
 const FRAME: usize = 28;
 
 // A listing that is the walk's, with what the walk counts; or why it is not.
-#[derive(Drop)]
+#[derive(Clone, Copy)]
 pub enum CheckAnswer {
     Accepted(Counts),
     Refused(WalkRefusal),
 }
 
 // A listing that is written: its bytes, and what the walk counts.
-#[derive(Drop)]
+#[derive(Clone, Copy)]
 pub struct Written {
     pub bytes: u64,
     pub kept: u32,
@@ -47,7 +48,7 @@ pub struct Written {
 }
 
 // A refusal to write: as one of the walk, with the bytes needed where there is no room.
-#[derive(Drop)]
+#[derive(Clone, Copy)]
 pub struct WriteRefusal {
     pub number: u32,
     pub position: usize,
@@ -57,7 +58,7 @@ pub struct WriteRefusal {
     pub dropped: u32,
 }
 
-#[derive(Drop)]
+#[derive(Clone, Copy)]
 pub enum WriteAnswer {
     Written(Written),
     Refused(WriteRefusal),

@@ -1,5 +1,6 @@
 // The subkeys of a key record: the walk from its list through the lists that `ri` lists name, depth first and in order; and those of
 // one leaf list. A walk is measured first and its buffer filled after, so that a refusal leaves the buffer as it was.
+#![tactic(auto)]
 ghost use Rattle.std.specs.Prelude.{◌≡◌, ◌+◌, ◌%◌, ◌≤◌, min, [], length};
 ghost use Rattle.words.specs.Words.{word32};
 ghost use Rattle.words.specs.Paper.{refused, no_room_told};
@@ -30,7 +31,7 @@ const PIECE: usize = 4096;
 const BLOCK: usize = 16;
 
 // Offsets kept, lists read, entries of leaf lists, dropped ones included, and those dropped.
-#[derive(Drop)]
+#[derive(Clone, Copy)]
 pub struct Counts {
     pub kept: u32,
     pub lists: u32,
@@ -40,7 +41,7 @@ pub struct Counts {
 
 // A refusal: its number, the position of the list at fault, the lists read so far and, where there is no room, the places
 // needed, the entries and those dropped.
-#[derive(Drop)]
+#[derive(Clone, Copy)]
 pub struct WalkRefusal {
     pub number: u32,
     pub position: usize,
@@ -50,21 +51,21 @@ pub struct WalkRefusal {
     pub dropped: u32,
 }
 
-#[derive(Drop)]
+#[derive(Clone, Copy)]
 pub enum WalkAnswer {
     Read(Counts),
     Refused(WalkRefusal),
 }
 
 // What one leaf list gave: the offsets kept, all entries, dropped ones included, and those dropped.
-#[derive(Drop)]
+#[derive(Clone, Copy)]
 pub struct LeafRead {
     pub kept: u32,
     pub entries: u32,
     pub dropped: u32,
 }
 
-#[derive(Drop)]
+#[derive(Clone, Copy)]
 pub enum LeafAnswer {
     Read(LeafRead),
     Refused(WalkRefusal),

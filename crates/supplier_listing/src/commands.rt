@@ -22,7 +22,7 @@ const NONE: usize = 10;
 const FAR: usize = 1000000;
 
 // What a word says of the key.
-#[derive(Drop)]
+#[derive(Clone, Copy)]
 enum Said {
     Key(Which),
     Nothing,

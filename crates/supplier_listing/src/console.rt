@@ -52,7 +52,7 @@ pub fn refused(n: u32) -> bool {
 }
 
 // What was read: so many bytes, and whether a read failed after them.
-#[derive(Drop)]
+#[derive(Clone, Copy)]
 pub struct Input {
     pub bytes: usize,
     pub failed: bool,
@@ -99,7 +99,7 @@ pub fn tell(taken: bool) {
 }
 
 // A hive: its bytes, whether it has more than there is room for, and whether it could not be read.
-#[derive(Drop)]
+#[derive(Clone, Copy)]
 pub struct Hive {
     pub bytes: usize,
     pub large: bool,

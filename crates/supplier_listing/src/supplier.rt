@@ -14,7 +14,7 @@ const BASE: u32 = 4096;
 const BUDGET: u32 = 1024;
 
 // Which key of a hive: the root, or the one whose record stands at a position.
-#[derive(Drop)]
+#[derive(Clone, Copy)]
 pub enum Which {
     Root,
     At(usize),

@@ -1,5 +1,6 @@
 // A value's data, whole: in its record's offset field, in a cell, or in the segments of a big data cell. All cells are judged before
 // a byte is copied.
+#![tactic(auto)]
 ghost use Rattle.std.specs.Prelude.{◌+◌, ◌≤◌, min, ◌≡◌, length};
 ghost use Rattle.words.specs.Refusals.{BAD_DATA};
 ghost use Rattle.words.specs.Paper.{verdict_paper};
@@ -28,7 +29,7 @@ const BIG_DATA: usize = 12;
 
 // Where a value's data is: nowhere, for a size of 0; in the record's offset field; in the cell at a position; in segments, the cell
 // of whose list is at a position.
-#[derive(Drop)]
+#[derive(Clone, Copy)]
 enum DataPlace {
     Nothing,
     Field,
@@ -37,14 +38,14 @@ enum DataPlace {
 }
 
 // The place of a value's data, every cell of it judged, or why it cannot be read.
-#[derive(Drop)]
+#[derive(Clone, Copy)]
 enum FindAnswer {
     Found(DataPlace),
     Refused(Refusal),
 }
 
 // The number of bytes copied, or why there are none.
-#[derive(Drop)]
+#[derive(Clone, Copy)]
 pub enum DataAnswer {
     Copied(u32),
     Refused(RoomRefusal),

@@ -1,5 +1,6 @@
 // Words read out of a slice, and the refusals: their numbers, and what one tells. Every function takes any slice and any position: a
 // byte past the end counts as 0, so that nothing above this crate has an index to prove.
+#![tactic(auto)]
 ghost use Rattle.std.specs.Prelude.{◌≡◌, ◌+◌, ◌-◌, ◌*◌, length, take, drop, nat_abs};
 ghost use Rattle.words.specs.Refusals.{numbers};
 ghost use Rattle.words.specs.Parts.{Part, start_of};
@@ -82,14 +83,14 @@ fn refusal_numbers() -> [u32; 21]
 }
 
 // A refusal: its number in the table, and the position at fault, counted from the start of the image.
-#[derive(Drop)]
+#[derive(Clone, Copy)]
 pub struct Refusal {
     pub number: u32,
     pub position: usize,
 }
 
 // A refusal of what is written into a lent buffer: also, of NO ROOM, the places needed.
-#[derive(Drop)]
+#[derive(Clone, Copy)]
 pub struct RoomRefusal {
     pub number: u32,
     pub position: usize,
@@ -97,7 +98,7 @@ pub struct RoomRefusal {
 }
 
 // All checks are passed, or the first that fails refuses.
-#[derive(Drop)]
+#[derive(Clone, Copy)]
 pub enum Verdict {
     Whole,
     Refused(Refusal),

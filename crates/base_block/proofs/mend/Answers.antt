@@ -1,0 +1,18 @@
+use borrow.Author.Tests.{ne_eqb}
+use Rattle.base_block.specs.Checksum.{mended}
+use Rattle.base_block.proofs.mend.Goals as goal
+
+pub returns-in-0 : goal.returns-in-0
+unfolding mended
+returns-in-0 c =
+    simp c.in-0.is
+
+pub returns-in-4294967295 : goal.returns-in-4294967295
+unfolding mended
+returns-in-4294967295 c =
+    simp c.in-4294967295.is
+
+pub returns-in_default : goal.returns-in_default
+unfolding mended
+returns-in_default c =
+    simp (ne_eqb _ _ c.in-0.rest.1, ne_eqb _ _ c.in-0.rest.0.1)

@@ -1,0 +1,12 @@
+use Prim.Native.Nat.{◌-◌}
+use Rattle.list_conversion.specs.Entries.{offset_in}
+use Rattle.list_conversion.proofs.Rows.{Filling}
+use Rattle.list_conversion.proofs.put_li_entries.Given as goal
+
+abbrev pub invariant-loop-i : goal.invariant-loop-i
+invariant-loop-i l =
+    Filling 4 (offset_in l.list 8) l.count l.initial.out l.out l.i
+
+abbrev pub decreases-loop-i : goal.decreases-loop-i
+decreases-loop-i l =
+    l.count - l.i

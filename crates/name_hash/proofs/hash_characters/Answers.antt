@@ -1,0 +1,18 @@
+use Rattle.std.proofs.Common.{◌≡◌, arith, rules}
+use Rattle.name_hash.specs.Characters.{upper_of, character_of}
+use Rattle.name_hash.specs.Hash.{hash_of}
+use Rattle.name_hash.proofs.Laws.{hash_more}
+use Rattle.name_hash.proofs.hash_characters.Goals as goal
+
+pub loop-i-init : goal.loop-i-init
+unfolding hash_of
+loop-i-init c =
+    search rules
+
+pub loop-i-preserved : goal.loop-i-preserved
+loop-i-preserved c =
+    let a = c.args in (search rules, cc (hash_more upper_of (character_of a.units a.name.now) c.loop-i.i))
+
+pub returns : goal.returns
+returns c =
+    let e : c.loop-i.i ≡ c.args.count = omega arith in cc

@@ -1,0 +1,42 @@
+use mathlib.Core.Path.{◌≡◌, ◌∙◌}
+use mathlib.Core.Logic.{⊎_elim}
+use Prim.Native.Nat.{◌+◌, ◌-◌}
+use native.Mathlib.Omega.{arith}
+use lib.ListN.{length}
+use Rattle.sub_key_list.specs.Leaves.{leaf_kept, leaf_dropped}
+use Rattle.sub_key_list.proofs.Leaves.{leaf_all}
+use Rattle.sub_key_walk.proofs.Traces.{leaf_stands}
+use Rattle.sub_key_walk.proofs.Entries.{standing_entries}
+use borrow.Author.Rules.{rules}
+use Rattle.sub_key_walk.proofs.read_leaf.Goals as goal
+
+pub overflow_add-position : goal.overflow_add-position
+overflow_add-position c =
+    let a = c.args in
+    let h = (leaf_stands a.image.now a.position _ _ _ c.requires).header in
+    search rules
+
+pub dropped_wide-dropped-requires : goal.dropped_wide-dropped-requires
+dropped_wide-dropped-requires c =
+    let a = c.args in
+    let x = leaf_stands a.image.now a.position _ _ _ c.requires in
+    (standing_entries x, (x.other_size, omega arith))
+
+pub overflow_sub-kept : goal.overflow_sub-kept
+overflow_sub-kept c =
+    let a = c.args in
+    let d = c.if-n-le-FEW in
+    let e : d.dropped ≡ leaf_dropped a.image.now a.base a.leaf.entry_size a.leaf.count (a.position + 8) =
+    ⊎_elim {C = d.dropped ≡ leaf_dropped a.image.now a.base a.leaf.entry_size a.leaf.count (a.position + 8)} (λ w. w.2 ∙ w.1.ensures) (λ w. w.3 ∙ w.2.ensures) d.branch in
+    let w = leaf_all a.image.now a.base a.leaf.entry_size a.leaf.count (a.position + 8) in
+    search rules
+
+pub returns : goal.returns
+returns c =
+    let a = c.args in
+    let d = c.if-n-le-FEW in
+    let e : d.dropped ≡ leaf_dropped a.image.now a.base a.leaf.entry_size a.leaf.count (a.position + 8) =
+    ⊎_elim {C = d.dropped ≡ leaf_dropped a.image.now a.base a.leaf.entry_size a.leaf.count (a.position + 8)} (λ w. w.2 ∙ w.1.ensures) (λ w. w.3 ∙ w.2.ensures) d.branch in
+    let w = leaf_all a.image.now a.base a.leaf.entry_size a.leaf.count (a.position + 8) in
+    let k : a.leaf.count - d.dropped ≡ length (leaf_kept a.image.now a.base a.leaf.entry_size a.leaf.count (a.position + 8)) = omega arith in
+    λ i. record { kept = k i; entries = a.leaf.count; dropped = e i }

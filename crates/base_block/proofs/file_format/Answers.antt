@@ -1,4 +1,5 @@
-use borrow.Author.Tests.{ne_eqb}
+use Rattle.std.proofs.Common.{arith}
+use Rattle.std.proofs.lemmas.Bool.Decides.{nat_tests}
 use Rattle.base_block.specs.Block.{format_of}
 use Rattle.base_block.proofs.file_format.Goals as goal
 
@@ -10,4 +11,4 @@ returns-in-1 c =
 pub returns-in_default : goal.returns-in_default
 unfolding format_of
 returns-in_default c =
-    simp (ne_eqb _ _ c.in-1.rest.1)
+    grind (arith, nat_tests)

@@ -1,4 +1,5 @@
-use borrow.Author.Tests.{ne_eqb}
+use Rattle.std.proofs.Common.{arith}
+use Rattle.std.proofs.lemmas.Bool.Decides.{nat_tests}
 use Rattle.base_block.specs.Block.{type_of}
 use Rattle.base_block.proofs.file_type.Goals as goal
 
@@ -20,4 +21,4 @@ returns-in-6 c =
 pub returns-in_default : goal.returns-in_default
 unfolding type_of
 returns-in_default c =
-    simp (ne_eqb _ _ c.in-0.rest.1, ne_eqb _ _ c.in-0.rest.0.1, ne_eqb _ _ c.in-0.rest.0.0.1)
+    grind (arith, nat_tests)

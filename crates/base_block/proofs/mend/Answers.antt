@@ -1,4 +1,5 @@
-use borrow.Author.Tests.{ne_eqb}
+use Rattle.std.proofs.Common.{arith}
+use Rattle.std.proofs.lemmas.Bool.Decides.{nat_tests}
 use Rattle.base_block.specs.Checksum.{mended}
 use Rattle.base_block.proofs.mend.Goals as goal
 
@@ -15,4 +16,4 @@ returns-in-4294967295 c =
 pub returns-in_default : goal.returns-in_default
 unfolding mended
 returns-in_default c =
-    simp (ne_eqb _ _ c.in-0.rest.1, ne_eqb _ _ c.in-0.rest.0.1)
+    grind (arith, nat_tests)

@@ -53,7 +53,7 @@ pub loop-left-preserved : goal.loop-left-preserved
 loop-left-preserved c =
     let a = c.args in
     let e = c.smaller-k.ensures in
-    leaving_next a.image.now a.base a.size a.n a.pos _ _ c.loop-left.invariant c.smaller-k.result (omega arith) (c.fits2.ensures (not-false _ c.if-not-fits.false))
+    leaving_next a.image.now a.base a.size a.n a.pos _ _ c.loop-left.invariant c.smaller-k.result (omega arith) (c.fits2.ensures (c.if-not-fits.false))
 
 pub count_dropped-requires-2 : goal.count_dropped-requires-2
 count_dropped-requires-2 c =

@@ -13,19 +13,19 @@ returns-then-big-lt-BIG_DATA c =
 pub returns-then-not-is_big_data_block : goal.returns-then-not-is_big_data_block
 returns-then-not-is_big_data_block c =
     let a = c.args in
-    head_sign a.image.now a.position a.count a.large c.from-big.ensures.bytes c.if-big-lt-BIG_DATA.false (sym c.is_big_data_block.ensures ∙ not-true _ c.if-not-is_big_data_block.true)
+    head_sign a.image.now a.position a.count a.large c.from-big.ensures.bytes c.if-big-lt-BIG_DATA.false (sym c.is_big_data_block.ensures ∙ c.if-not-is_big_data_block.true)
 
 pub returns-then-not-large : goal.returns-then-not-large
 returns-then-not-large c =
     let a = c.args in
-    ap (λ (f : Refusal). refused (told f)) c.bad_data-small.ensures ∙ head_small a.image.now a.position a.count a.large c.from-big.ensures.bytes c.if-big-lt-BIG_DATA.false (sym c.is_big_data_block.ensures ∙ not-false _ c.if-not-is_big_data_block.false) (not-true _ c.if-not-large.true)
+    ap (λ (f : Refusal). refused (told f)) c.bad_data-small.ensures ∙ head_small a.image.now a.position a.count a.large c.from-big.ensures.bytes c.if-big-lt-BIG_DATA.false (sym c.is_big_data_block.ensures ∙ c.if-not-is_big_data_block.false) (c.if-not-large.true)
 
 pub returns-then-told-count : goal.returns-then-told-count
 returns-then-told-count c =
     let a = c.args in
-    ap (λ (f : Refusal). refused (told f)) c.bad_data-wrong.ensures ∙ head_number a.image.now a.position a.count a.large c.from-big.ensures.bytes c.if-big-lt-BIG_DATA.false (sym c.is_big_data_block.ensures ∙ not-false _ c.if-not-is_big_data_block.false) (not-false _ c.if-not-large.false) (λ e. c.if-told-count.true (c.u16_at-told.ensures ∙ e))
+    ap (λ (f : Refusal). refused (told f)) c.bad_data-wrong.ensures ∙ head_number a.image.now a.position a.count a.large c.from-big.ensures.bytes c.if-big-lt-BIG_DATA.false (sym c.is_big_data_block.ensures ∙ c.if-not-is_big_data_block.false) (c.if-not-large.false) (λ e. c.if-told-count.true (c.u16_at-told.ensures ∙ e))
 
 pub returns : goal.returns
 returns c =
     let a = c.args in
-    head_whole a.image.now a.position a.count a.large c.from-big.ensures.bytes c.if-big-lt-BIG_DATA.false (sym c.is_big_data_block.ensures ∙ not-false _ c.if-not-is_big_data_block.false) (not-false _ c.if-not-large.false) (sym c.u16_at-told.ensures ∙ c.if-told-count.false)
+    head_whole a.image.now a.position a.count a.large c.from-big.ensures.bytes c.if-big-lt-BIG_DATA.false (sym c.is_big_data_block.ensures ∙ c.if-not-is_big_data_block.false) (c.if-not-large.false) (sym c.u16_at-told.ensures ∙ c.if-told-count.false)

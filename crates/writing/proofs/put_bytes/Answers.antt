@@ -5,11 +5,11 @@ use Rattle.writing.proofs.put_bytes.Goals as goal
 
 pub returns-then-not-has_room : goal.returns-then-not-has_room
 returns-then-not-has_room c =
-    let a = c.args in put-nothing a.out.now a.at a.n a.x (sym c.has_room.ensures ∙ not-true _ c.if-not-has_room.true)
+    let a = c.args in put-nothing a.out.now a.at a.n a.x (sym c.has_room.ensures ∙ c.if-not-has_room.true)
 
 pub loop-i-init : goal.loop-i-init
 loop-i-init c =
-    let a = c.args in putting_start a.out.now a.at a.n a.x (sym c.has_room.ensures ∙ not-false _ c.if-not-has_room.false)
+    let a = c.args in putting_start a.out.now a.at a.n a.x (sym c.has_room.ensures ∙ c.if-not-has_room.false)
 
 pub loop-i-preserved : goal.loop-i-preserved
 loop-i-preserved c =

@@ -1,3 +1,5 @@
+use mathlib.Core.Path.{ap}
+use mathlib.Core.Bool.{not}
 use mathlib.Core.Path.{◌∙◌}
 use Rattle.sub_key_list.proofs.Strict.{checks_barred, checks_cell, checks_whole}
 use Rattle.sub_key_list.proofs.strict_checks.Goals as goal
@@ -8,8 +10,8 @@ returns-then-barred c =
 
 pub returns-then-not-whole : goal.returns-then-not-whole
 returns-then-not-whole c =
-    c.bar-then-not-whole.ensures ∙ checks_cell _ _ _ _ c.half-kind.ensures c.bars-barred.ensures c.if-barred.false c.in_own_cell-whole.ensures c.if-not-whole.true
+    c.bar-then-not-whole.ensures ∙ checks_cell _ _ _ _ c.half-kind.ensures c.bars-barred.ensures c.if-barred.false c.in_own_cell-whole.ensures (ap not c.if-not-whole.true)
 
 pub returns : goal.returns
 returns c =
-    checks_whole _ _ _ _ c.half-kind.ensures c.bars-barred.ensures c.if-barred.false c.in_own_cell-whole.ensures c.if-not-whole.false
+    checks_whole _ _ _ _ c.half-kind.ensures c.bars-barred.ensures c.if-barred.false c.in_own_cell-whole.ensures (ap not c.if-not-whole.false)

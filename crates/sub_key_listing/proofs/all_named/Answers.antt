@@ -1,3 +1,5 @@
+use mathlib.Core.Path.{ap}
+use mathlib.Core.Bool.{not}
 use native.Mathlib.Omega.{arith}
 use Rattle.sub_key_listing.proofs.Naming.{naming_start, naming_fails, naming_step, naming_end}
 use borrow.Author.Rules.{rules}
@@ -13,7 +15,7 @@ begins_at-begun-requires c =
 
 pub returns-then-not-begun : goal.returns-then-not-begun
 returns-then-not-begun c =
-    naming_fails c.args.listing.now c.args.n _ _ c.loop-i.invariant c.loop-i-test.true c.begins_at-begun.ensures c.if-not-begun.true
+    naming_fails c.args.listing.now c.args.n _ _ c.loop-i.invariant c.loop-i-test.true c.begins_at-begun.ensures (ap not c.if-not-begun.true)
 
 pub overflow_add-at : goal.overflow_add-at
 overflow_add-at c =
@@ -21,7 +23,7 @@ overflow_add-at c =
 
 pub loop-i-preserved : goal.loop-i-preserved
 loop-i-preserved c =
-    naming_step c.args.listing.now c.args.n _ _ c.loop-i.invariant c.loop-i-test.true c.begins_at-begun.ensures c.if-not-begun.false
+    naming_step c.args.listing.now c.args.n _ _ c.loop-i.invariant c.loop-i-test.true c.begins_at-begun.ensures (ap not c.if-not-begun.false)
 
 pub returns : goal.returns
 returns c =

@@ -1,2 +1,0 @@
--- What the three walks share.
-mod Lent

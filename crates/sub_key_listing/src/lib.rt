@@ -167,8 +167,8 @@ fn match_leaf(
     listing: &[u8],
     place: usize,
 ) -> usize
-    requires fact_1 { Entries image.now size n pos }
-    requires fact_2 { Space (leaf_kept image.now base size n pos) place listing.now }
+    requires there { Entries image.now size n pos }
+    requires space { Space (leaf_kept image.now base size n pos) place listing.now }
     ensures { result ≡ agreed listing.now (leaf_kept image.now base size n pos) place }
 {
     let mut at = pos;
@@ -268,8 +268,8 @@ fn put_leaf(
     out: &mut [u8],
     place: usize,
 ) -> usize
-    requires fact_1 { Entries image.now size n pos }
-    requires fact_2 { Space (leaf_kept image.now base size n pos) place out.old }
+    requires there { Entries image.now size n pos }
+    requires space { Space (leaf_kept image.now base size n pos) place out.old }
     ensures { Filled (named (leaf_kept image.now base size n pos)) out.old place result out.new }
 {
     let mut at = pos;
@@ -327,8 +327,8 @@ fn opens_with(listing: &[u8], base: u32, position: usize) -> bool
 
 // Whether the offsets of a listing of `n` are those of a key record, whose walk keeps that many.
 fn offsets_agree(image: &[u8], key: KeyNode, n: usize, listing: &[u8]) -> bool
-    requires fact_1 { n ≡ length (offsets_of image.now key) }
-    requires fact_2 { 28 + 10 * n ≤ length listing.now }
+    requires counted { n ≡ length (offsets_of image.now key) }
+    requires room { 28 + 10 * n ≤ length listing.now }
     ensures { result ≡ agrees listing.now (offsets_of image.now key) }
 {
     if n == 0 {
@@ -348,8 +348,8 @@ fn offsets_agree(image: &[u8], key: KeyNode, n: usize, listing: &[u8]) -> bool
 
 // Whether bytes that are a listing are the one of a key record, whose walk keeps so many offsets.
 fn is_right(image: &[u8], key: KeyNode, kept: u32, listing: &[u8]) -> bool
-    requires fact_1 { wellformed listing.now ≡ true }
-    requires fact_2 { kept ≡ length (offsets_of image.now key) }
+    requires formed { wellformed listing.now ≡ true }
+    requires counted { kept ≡ length (offsets_of image.now key) }
     ensures { result ≡ same listing.now (right_listing image.now key) }
 {
     let needed = FRAME + RECORD * (kept as usize);
@@ -398,8 +398,8 @@ pub fn check_listing(image: &[u8], key: KeyNode, budget: u32, listing: &[u8]) ->
 
 // The offsets of a key record, whose walk keeps so many, behind an opening; and the place behind them.
 fn put_offsets(image: &[u8], key: KeyNode, kept: u32, out: &mut [u8]) -> usize
-    requires fact_1 { kept ≡ length (offsets_of image.now key) }
-    requires fact_2 { 28 + 10 * kept ≤ length out.old }
+    requires counted { kept ≡ length (offsets_of image.now key) }
+    requires room { 28 + 10 * kept ≤ length out.old }
     ensures { Filled (named (offsets_of image.now key)) out.old 18 result out.new }
 {
     if kept == 0 {
@@ -411,8 +411,8 @@ fn put_offsets(image: &[u8], key: KeyNode, kept: u32, out: &mut [u8]) -> usize
 
 // The listing of a key record, whose walk keeps so many offsets, from the first byte on.
 fn put_listing(image: &[u8], key: KeyNode, kept: u32, out: &mut [u8])
-    requires fact_1 { kept ≡ length (offsets_of image.now key) }
-    requires fact_2 { 28 + 10 * kept ≤ length out.old }
+    requires counted { kept ≡ length (offsets_of image.now key) }
+    requires room { 28 + 10 * kept ≤ length out.old }
     ensures { out.new ≡ with_bytes out.old 0 (right_listing image.now key) }
 {
     put_opening(out, key.base, key.position as u64);

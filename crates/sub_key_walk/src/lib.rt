@@ -154,8 +154,8 @@ fn pair(image: &[u8], at: usize) -> u64
 
 // The offset of an entry of `size` bytes at a place.
 fn offset_at(image: &[u8], size: usize, at: usize) -> u32
-    requires fact_1 { 4 ≤ size }
-    requires fact_2 { at + size ≤ length image.now }
+    requires wide { 4 ≤ size }
+    requires inside { at + size ≤ length image.now }
     ensures { result ≡ word32 image.now at }
 {
     if size == 8 {
@@ -202,8 +202,8 @@ fn bound_of(image: &[u8], size: usize, pos: usize, n: usize) -> u32
 
 // Whether it is plain from their bound that none of the entries is dropped.
 fn fits(image: &[u8], base: u32, size: usize, pos: usize, n: usize) -> bool
-    requires fact_1 { Entries image.now size n pos }
-    requires fact_2 { Sized size }
+    requires there { Entries image.now size n pos }
+    requires sized { Sized size }
     ensures { Whole image.now base size n pos result }
 {
     let most = 4294967295 - base;
@@ -216,8 +216,8 @@ fn fits(image: &[u8], base: u32, size: usize, pos: usize, n: usize) -> bool
 
 // How many of the entries of `size` bytes each, the first at `pos`, are dropped: those whose sum with the base passes 32 bits.
 fn dropped_of(image: &[u8], base: u32, size: usize, pos: usize, n: usize) -> u32
-    requires fact_1 { Entries image.now size n pos }
-    requires fact_2 { n ≤ 65535 }
+    requires there { Entries image.now size n pos }
+    requires few { n ≤ 65535 }
     ensures { result ≡ leaf_dropped image.now base size n pos }
 {
     let mut dropped: u32 = 0;
@@ -234,9 +234,9 @@ fn dropped_of(image: &[u8], base: u32, size: usize, pos: usize, n: usize) -> u32
 
 // The same, with the size as a constant.
 fn count_dropped(image: &[u8], base: u32, size: usize, pos: usize, n: usize) -> u32
-    requires fact_1 { Entries image.now size n pos }
-    requires fact_2 { Sized size }
-    requires fact_3 { n ≤ 65535 }
+    requires there { Entries image.now size n pos }
+    requires sized { Sized size }
+    requires few { n ≤ 65535 }
     ensures { result ≡ leaf_dropped image.now base size n pos }
 {
     if size == 4 {
@@ -255,9 +255,9 @@ fn smaller(a: usize, b: usize) -> usize
 
 // The same of many entries, piece by piece, as none is dropped of most: the first piece of which one may be dropped, and all behind it, are counted.
 fn dropped_wide(image: &[u8], base: u32, size: usize, pos: usize, n: usize) -> u32
-    requires fact_1 { Entries image.now size n pos }
-    requires fact_2 { Sized size }
-    requires fact_3 { n ≤ 65535 }
+    requires there { Entries image.now size n pos }
+    requires sized { Sized size }
+    requires few { n ≤ 65535 }
     ensures { result ≡ leaf_dropped image.now base size n pos }
 {
     let mut at = pos;
@@ -283,9 +283,9 @@ fn whole_of(
     out: &mut [u32],
     place: usize,
 ) -> usize
-    requires fact_1 { Entries image.now size n pos }
-    requires fact_2 { leaf_dropped image.now base size n pos ≡ 0 }
-    requires fact_3 { place + length (leaf_kept image.now base size n pos) ≤ length out.old }
+    requires there { Entries image.now size n pos }
+    requires none_dropped { leaf_dropped image.now base size n pos ≡ 0 }
+    requires room { place + length (leaf_kept image.now base size n pos) ≤ length out.old }
     ensures { Filled (leaf_kept image.now base size n pos) out.old place result out.new }
 {
     let mut at = pos;
@@ -311,10 +311,10 @@ fn fill_whole(
     out: &mut [u32],
     place: usize,
 ) -> usize
-    requires fact_1 { Entries image.now size n pos }
-    requires fact_2 { Sized size }
-    requires fact_3 { leaf_dropped image.now base size n pos ≡ 0 }
-    requires fact_4 { place + length (leaf_kept image.now base size n pos) ≤ length out.old }
+    requires there { Entries image.now size n pos }
+    requires sized { Sized size }
+    requires none_dropped { leaf_dropped image.now base size n pos ≡ 0 }
+    requires room { place + length (leaf_kept image.now base size n pos) ≤ length out.old }
     ensures { Filled (leaf_kept image.now base size n pos) out.old place result out.new }
 {
     if size == 4 {
@@ -347,8 +347,8 @@ fn fill_each(
     out: &mut [u32],
     place: usize,
 ) -> usize
-    requires fact_1 { Entries image.now size n pos }
-    requires fact_2 { place + length (leaf_kept image.now base size n pos) ≤ length out.old }
+    requires there { Entries image.now size n pos }
+    requires room { place + length (leaf_kept image.now base size n pos) ≤ length out.old }
     ensures { Filled (leaf_kept image.now base size n pos) out.old place result out.new }
 {
     let mut at = pos;
@@ -373,9 +373,9 @@ fn fill_kept(
     out: &mut [u32],
     place: usize,
 ) -> usize
-    requires fact_1 { Entries image.now size n pos }
-    requires fact_2 { Sized size }
-    requires fact_3 { place + length (leaf_kept image.now base size n pos) ≤ length out.old }
+    requires there { Entries image.now size n pos }
+    requires sized { Sized size }
+    requires room { place + length (leaf_kept image.now base size n pos) ≤ length out.old }
     ensures { Filled (leaf_kept image.now base size n pos) out.old place result out.new }
 {
     let mut at = pos;
@@ -437,9 +437,9 @@ fn fill_leaf(
     out: &mut [u32],
     place: usize,
 ) -> usize
-    requires fact_1 { Stands image.now position leaf }
-    requires fact_2 { Whole image.now base leaf.entry_size leaf.count (position + 8) whole }
-    requires fact_3 { place + length (leaf_kept image.now base leaf.entry_size leaf.count (position + 8)) ≤ length out.old }
+    requires stands { Stands image.now position leaf }
+    requires kept_whole { Whole image.now base leaf.entry_size leaf.count (position + 8) whole }
+    requires room { place + length (leaf_kept image.now base leaf.entry_size leaf.count (position + 8)) ≤ length out.old }
     ensures { Filled (leaf_kept image.now base leaf.entry_size leaf.count (position + 8)) out.old place result out.new }
 {
     let n = leaf.count as usize;

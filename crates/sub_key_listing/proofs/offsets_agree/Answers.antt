@@ -3,12 +3,12 @@ use Rattle.sub_key_listing.proofs.offsets_agree.Goals as goal
 
 pub returns-then-n-eq0 : goal.returns-then-n-eq0
 returns-then-n-eq0 c =
-    agree_none c.args.image.now c.args.key c.args.n c.requires.0 c.args.listing.now c.if-n-eq0.true
+    agree_none c.args.image.now c.args.key c.args.n c.requires.counted c.args.listing.now c.if-n-eq0.true
 
 pub match_walk-end-requires : goal.match_walk-end-requires
 match_walk-end-requires c =
-    agree_room c.args.image.now c.args.key c.args.n c.requires.0 c.args.listing.now c.if-n-eq0.false c.requires.1
+    agree_room c.args.image.now c.args.key c.args.n c.requires.counted c.args.listing.now c.if-n-eq0.false c.requires.room
 
 pub returns : goal.returns
 returns c =
-    agree_some c.args.image.now c.args.key c.args.n c.requires.0 c.args.listing.now c.if-n-eq0.false c.match_walk-end.ensures
+    agree_some c.args.image.now c.args.key c.args.n c.requires.counted c.args.listing.now c.if-n-eq0.false c.match_walk-end.ensures

@@ -10,24 +10,24 @@ use Rattle.sub_key_listing.proofs.put_leaf.Goals as goal
 pub loop-i-init : goal.loop-i-init
 loop-i-init c =
     let a = c.args in
-    passing_start (records (length a.out.now)) a.image.now a.base a.size a.n a.pos (a.out.now, a.place) c.requires.0 (room_of _ a.out.now a.place c.requires.1)
+    passing_start (records (length a.out.now)) a.image.now a.base a.size a.n a.pos (a.out.now, a.place) c.requires.there (room_of _ a.out.now a.place c.requires.space)
 
 pub put_kept-to-requires : goal.put_kept-to-requires
 put_kept-to-requires c =
     let a = c.args in
     space_of (keep (c.u32_at-v.result + a.base) []) c.loop-i.out c.loop-i.to (length a.out.now)
-    (passing_ready (records (length a.out.now)) a.image.now a.base a.size a.n a.pos (a.out.now, a.place) _ _ _ c.loop-i.invariant c.loop-i-test.true c.requires.0.word c.u32_at-v.ensures)
+    (passing_ready (records (length a.out.now)) a.image.now a.base a.size a.n a.pos (a.out.now, a.place) _ _ _ c.loop-i.invariant c.loop-i-test.true c.requires.there.word c.u32_at-v.ensures)
 
 pub overflow_add-at : goal.overflow_add-at
 overflow_add-at c =
     let a = c.args in
-    let l = passing_there (records (length a.out.now)) a.image.now a.base a.size a.n a.pos (a.out.now, a.place) _ _ _ c.loop-i.invariant c.loop-i-test.true c.requires.0.word in
+    let l = passing_there (records (length a.out.now)) a.image.now a.base a.size a.n a.pos (a.out.now, a.place) _ _ _ c.loop-i.invariant c.loop-i-test.true c.requires.there.word in
     search rules
 
 pub loop-i-preserved : goal.loop-i-preserved
 loop-i-preserved c =
     let a = c.args in
-    passing_step (records (length a.out.now)) a.image.now a.base a.size a.n a.pos (a.out.now, a.place) _ _ _ c.loop-i.invariant c.loop-i-test.true c.requires.0.word c.u32_at-v.ensures c.put_kept-to.ensures
+    passing_step (records (length a.out.now)) a.image.now a.base a.size a.n a.pos (a.out.now, a.place) _ _ _ c.loop-i.invariant c.loop-i-test.true c.requires.there.word c.u32_at-v.ensures c.put_kept-to.ensures
 
 pub shape_of-out : goal.shape_of-out
 shape_of-out c =

@@ -6,14 +6,14 @@ use Rattle.sub_key_listing.proofs.put_listing.Goals as goal
 pub put_offsets-end-requires : goal.put_offsets-end-requires
 put_offsets-end-requires c =
     let a = c.args in
-    (c.requires.0, omega (arith, c.requires.0, opened_room a.out.now a.key.base a.key.position (offsets_of a.image.now a.key) (omega (arith, c.requires.0, c.requires.1)) c.put_opening.ensures))
+    (c.requires.counted, omega (arith, c.requires.counted, opened_room a.out.now a.key.base a.key.position (offsets_of a.image.now a.key) (omega (arith, c.requires.counted, c.requires.room)) c.put_opening.ensures))
 
 pub put_plain-requires : goal.put_plain-requires
 put_plain-requires c =
     let a = c.args in
-    close_room a.out.now a.key.base a.key.position (offsets_of a.image.now a.key) (omega (arith, c.requires.0, c.requires.1)) c.put_opening.ensures c.put_offsets-end.ensures
+    close_room a.out.now a.key.base a.key.position (offsets_of a.image.now a.key) (omega (arith, c.requires.counted, c.requires.room)) c.put_opening.ensures c.put_offsets-end.ensures
 
 pub returns : goal.returns
 returns c =
     let a = c.args in
-    closed_put a.out.now a.key.base a.key.position (offsets_of a.image.now a.key) (omega (arith, c.requires.0, c.requires.1)) c.put_opening.ensures c.put_offsets-end.ensures c.requires.0 c.put_plain.ensures
+    closed_put a.out.now a.key.base a.key.position (offsets_of a.image.now a.key) (omega (arith, c.requires.counted, c.requires.room)) c.put_opening.ensures c.put_offsets-end.ensures c.requires.counted c.put_plain.ensures

@@ -1,4 +1,4 @@
-use mathlib.Core.Logic.{⊎_elim}
+use Rattle.sub_key_walk.proofs.bound_of.Goals.{then-half-n, else-half-n}
 use Prim.Native.Nat.{◌-◌, ◌/◌}
 use native.Mathlib.Omega.{arith}
 use Rattle.sub_key_walk.proofs.Pieces.{first_there, bounding_start, near_there, far_there, bounding_step, bounding_even, bounding_odd}
@@ -25,12 +25,14 @@ loop-i-init c =
 pub offset_at-v-requires : goal.offset_at-v-requires
 offset_at-v-requires c =
     let a = c.args in
-    near_there a.image.now a.size a.n (a.n / 2) a.pos c.requires (omega arith) _ _ _ _ _ c.loop-i.invariant c.loop-i-test.true
+    let both = near_there a.image.now a.size a.n (a.n / 2) a.pos c.requires (omega arith) _ _ _ _ _ c.loop-i.invariant c.loop-i-test.true in
+    record { wide = both.0; inside = both.1 }
 
 pub offset_at-u-requires : goal.offset_at-u-requires
 offset_at-u-requires c =
     let a = c.args in
-    far_there a.image.now a.size a.n (a.n / 2) a.pos c.requires (omega arith) _ _ _ _ _ c.loop-i.invariant (let h = c.loop-i-test.true in omega arith)
+    let both = far_there a.image.now a.size a.n (a.n / 2) a.pos c.requires (omega arith) _ _ _ _ _ c.loop-i.invariant (let h = c.loop-i-test.true in omega arith) in
+    record { wide = both.0; inside = both.1 }
 
 pub overflow_add-at : goal.overflow_add-at
 overflow_add-at c =
@@ -52,14 +54,15 @@ loop-i-preserved c =
 pub offset_at-last-requires : goal.offset_at-last-requires
 offset_at-last-requires c =
     let a = c.args in
-    far_there a.image.now a.size a.n (a.n / 2) a.pos c.requires (omega arith) _ _ _ _ _ c.loop-i.invariant (let w = c.loop-i.invariant.within in omega arith)
+    let both = far_there a.image.now a.size a.n (a.n / 2) a.pos c.requires (omega arith) _ _ _ _ _ c.loop-i.invariant (let w = c.loop-i.invariant.within in omega arith) in
+    record { wide = both.0; inside = both.1 }
 
 pub returns : goal.returns
 returns c =
     let a = c.args in
     let v = c.loop-i.invariant in
     let h = c.loop-i-test.false in
-    ⊎_elim
-    (λ w. bounding_odd a.image.now a.size a.n (a.n / 2) a.pos c.requires (omega arith) _ _ _ _ _ v h (let t = w.0.taken in omega arith) w.1.ensures w.2)
-    (λ w. bounding_even a.image.now a.size a.n (a.n / 2) a.pos c.requires (omega arith) _ _ _ _ _ v h (let t = w.0.left in omega arith) w.1)
-    c.if-half-n.branch
+    elim c.if-half-n.branch [
+      then-half-n w ↦ bounding_odd a.image.now a.size a.n (a.n / 2) a.pos c.requires (omega arith) _ _ _ _ _ v h (let t = w.if-half-n.true in omega arith) w.offset_at-last.ensures w.further-is
+    | else-half-n w ↦ bounding_even a.image.now a.size a.n (a.n / 2) a.pos c.requires (omega arith) _ _ _ _ _ v h (let t = w.if-half-n.false in omega arith) w.further-is
+    ]

@@ -14,4 +14,4 @@ pub count_dropped-requires : goal.count_dropped-requires
 count_dropped-requires c =
     let a = c.args in
     let x = leaf_stands a.image.now a.position _ _ _ c.requires in
-    (standing_entries x, (x.other_size, omega arith))
+    record { there = standing_entries x; sized = x.other_size; few = omega arith }

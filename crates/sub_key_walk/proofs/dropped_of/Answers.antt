@@ -7,12 +7,13 @@ use Rattle.sub_key_walk.proofs.dropped_of.Goals as goal
 pub loop-i-init : goal.loop-i-init
 loop-i-init c =
     let a = c.args in
-    counting_start a.image.now a.base a.size a.n a.pos c.requires.0
+    counting_start a.image.now a.base a.size a.n a.pos c.requires.there
 
 pub offset_at-v-requires : goal.offset_at-v-requires
 offset_at-v-requires c =
     let a = c.args in
-    entry_there a.size a.n c.loop-i.i c.loop-i-test.true a.image.now c.loop-i.at c.requires.0.word c.loop-i.invariant.inside
+    let both = entry_there a.size a.n c.loop-i.i c.loop-i-test.true a.image.now c.loop-i.at c.requires.there.word c.loop-i.invariant.inside in
+    record { wide = both.0; inside = both.1 }
 
 pub overflow_add-dropped : goal.overflow_add-dropped
 overflow_add-dropped c =
@@ -30,9 +31,9 @@ overflow_add-at c =
 pub loop-i-preserved : goal.loop-i-preserved
 loop-i-preserved c =
     let a = c.args in
-    counting_step a.image.now a.base a.size a.n a.pos c.requires.0 _ _ _ c.loop-i.invariant c.loop-i-test.true c.offset_at-v.ensures c.drop_one-dropped.ensures
+    counting_step a.image.now a.base a.size a.n a.pos c.requires.there _ _ _ c.loop-i.invariant c.loop-i-test.true c.offset_at-v.ensures c.drop_one-dropped.ensures
 
 pub returns : goal.returns
 returns c =
     let a = c.args in
-    counting_end a.image.now a.base a.size a.n a.pos c.requires.0 _ _ _ c.loop-i.invariant c.loop-i-test.false
+    counting_end a.image.now a.base a.size a.n a.pos c.requires.there _ _ _ c.loop-i.invariant c.loop-i-test.false

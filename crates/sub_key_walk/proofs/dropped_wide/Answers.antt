@@ -8,20 +8,20 @@ use Rattle.sub_key_walk.proofs.dropped_wide.Goals as goal
 pub loop-left-init : goal.loop-left-init
 loop-left-init c =
     let a = c.args in
-    leaving_start a.image.now a.base a.size a.n a.pos c.requires.0
+    leaving_start a.image.now a.base a.size a.n a.pos c.requires.there
 
 pub fits-requires : goal.fits-requires
 fits-requires c =
     let a = c.args in
     let e = c.smaller-k.ensures in
-    (piece_there a.image.now a.base a.size a.n a.pos _ _ c.loop-left.invariant c.smaller-k.result (omega arith), c.requires.1.0)
+    record { there = piece_there a.image.now a.base a.size a.n a.pos _ _ c.loop-left.invariant c.smaller-k.result (omega arith); sized = c.requires.sized }
 
 pub count_dropped-requires : goal.count_dropped-requires
 count_dropped-requires c =
     let l = c.loop-left.invariant in
     let m = l.some in
-    let f = c.requires.1.1 in
-    (l.there, (c.requires.1.0, omega arith))
+    let f = c.requires.few in
+    record { there = l.there; sized = c.requires.sized; few = omega arith }
 
 pub returns-then-not-fits : goal.returns-then-not-fits
 returns-then-not-fits c =
@@ -53,14 +53,14 @@ pub loop-left-preserved : goal.loop-left-preserved
 loop-left-preserved c =
     let a = c.args in
     let e = c.smaller-k.ensures in
-    leaving_next a.image.now a.base a.size a.n a.pos _ _ c.loop-left.invariant c.smaller-k.result (omega arith) (c.fits2.ensures (c.if-not-fits.false))
+    leaving_next a.image.now a.base a.size a.n a.pos _ _ c.loop-left.invariant c.smaller-k.result (omega arith) (c.fits.ensures (c.if-not-fits.false))
 
 pub count_dropped-requires-2 : goal.count_dropped-requires-2
 count_dropped-requires-2 c =
     let l = c.loop-left.invariant in
     let m = l.some in
-    let f = c.requires.1.1 in
-    (l.there, (c.requires.1.0, omega arith))
+    let f = c.requires.few in
+    record { there = l.there; sized = c.requires.sized; few = omega arith }
 
 pub returns : goal.returns
 returns c =

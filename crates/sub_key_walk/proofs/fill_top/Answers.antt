@@ -17,7 +17,7 @@ fill_whole-requires c =
     let a = c.args in
     let e = (sym c.in-Leaf.ensures) in
     let x = leaf_stands a.image.now _ _ _ _ e in
-    (standing_entries x, (x.other_size, (leaf-whole (ordinary a.image.now) LEVELS a.image.now a.base a.list levels_left e c.requires c.if-whole.true, leaf_room (ordinary a.image.now) LEVELS a.image.now a.base a.list levels_left e c.requires)))
+    record { there = standing_entries x; sized = x.other_size; none_dropped = leaf-whole (ordinary a.image.now) LEVELS a.image.now a.base a.list levels_left e c.requires c.if-whole.true; room = leaf_room (ordinary a.image.now) LEVELS a.image.now a.base a.list levels_left e c.requires }
 
 pub returns-in-Leaf : goal.returns-in-Leaf
 returns-in-Leaf c =

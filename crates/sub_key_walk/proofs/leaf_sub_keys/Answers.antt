@@ -16,7 +16,7 @@ pub fill_leaf-requires : goal.fill_leaf-requires
 fill_leaf-requires c =
     let a = c.args in
     let e = ap list_paper (sym c.in-Leaf.is) ∙ c.read_list.ensures in
-    (sym e, (leaf-whole a.image.now a.base a.position a.out.now e c.read_leaf-read.ensures c.if-room-kept.false refl, leaf_roomy a.image.now a.base a.position a.out.now e c.read_leaf-read.ensures c.if-room-kept.false))
+    record { stands = sym e; kept_whole = leaf-whole a.image.now a.base a.position a.out.now e c.read_leaf-read.ensures c.if-room-kept.false refl; room = leaf_roomy a.image.now a.base a.position a.out.now e c.read_leaf-read.ensures c.if-room-kept.false }
 
 pub returns-in-Refused : goal.returns-in-Refused
 returns-in-Refused c =

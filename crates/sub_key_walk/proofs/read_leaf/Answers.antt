@@ -1,5 +1,5 @@
 use mathlib.Core.Path.{◌≡◌, ◌∙◌}
-use mathlib.Core.Logic.{⊎_elim}
+use Rattle.sub_key_walk.proofs.read_leaf.Goals.{then-n-le-FEW, else-n-le-FEW}
 use Prim.Native.Nat.{◌+◌, ◌-◌}
 use native.Mathlib.Omega.{arith}
 use lib.ListN.{length}
@@ -20,14 +20,14 @@ pub dropped_wide-dropped-requires : goal.dropped_wide-dropped-requires
 dropped_wide-dropped-requires c =
     let a = c.args in
     let x = leaf_stands a.image.now a.position _ _ _ c.requires in
-    (standing_entries x, (x.other_size, omega arith))
+    record { there = standing_entries x; sized = x.other_size; few = omega arith }
 
 pub overflow_sub-kept : goal.overflow_sub-kept
 overflow_sub-kept c =
     let a = c.args in
     let d = c.if-n-le-FEW in
     let e : d.dropped ≡ leaf_dropped a.image.now a.base a.leaf.entry_size a.leaf.count (a.position + 8) =
-    ⊎_elim {C = d.dropped ≡ leaf_dropped a.image.now a.base a.leaf.entry_size a.leaf.count (a.position + 8)} (λ w. w.2 ∙ w.1.ensures) (λ w. w.3 ∙ w.2.ensures) d.branch in
+    elim d.branch [ then-n-le-FEW w ↦ w.dropped-is ∙ w.dropped_few-dropped.ensures | else-n-le-FEW w ↦ w.dropped-is ∙ w.dropped_wide-dropped.ensures ] in
     let w = leaf_all a.image.now a.base a.leaf.entry_size a.leaf.count (a.position + 8) in
     search rules
 
@@ -36,7 +36,7 @@ returns c =
     let a = c.args in
     let d = c.if-n-le-FEW in
     let e : d.dropped ≡ leaf_dropped a.image.now a.base a.leaf.entry_size a.leaf.count (a.position + 8) =
-    ⊎_elim {C = d.dropped ≡ leaf_dropped a.image.now a.base a.leaf.entry_size a.leaf.count (a.position + 8)} (λ w. w.2 ∙ w.1.ensures) (λ w. w.3 ∙ w.2.ensures) d.branch in
+    elim d.branch [ then-n-le-FEW w ↦ w.dropped-is ∙ w.dropped_few-dropped.ensures | else-n-le-FEW w ↦ w.dropped-is ∙ w.dropped_wide-dropped.ensures ] in
     let w = leaf_all a.image.now a.base a.leaf.entry_size a.leaf.count (a.position + 8) in
     let k : a.leaf.count - d.dropped ≡ length (leaf_kept a.image.now a.base a.leaf.entry_size a.leaf.count (a.position + 8)) = omega arith in
     λ i. record { kept = k i; entries = a.leaf.count; dropped = e i }

@@ -18,7 +18,7 @@ returns-in-Whole c =
     let f = passed a.image.now a.position 80 0x6B6E 76 c.check_record.ensures c.in-Whole.is in
     handed_part f
     (slack_placed a.position 80 0x6B6E 76 c.from-cell.ensures f
-    c.type_size.ensures
+    c.size_of-size.ensures
     c.u16_at-name.ensures
     c.part-whole.ensures
     c.from.ensures)

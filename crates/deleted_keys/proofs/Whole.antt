@@ -34,6 +34,7 @@ pub rising_once : (at p : ℕ) (ps : List ℕ) → Rising at (p ∷ ps) → Amon
 rising_once at p ps h k = go (suc p) ps h.1 k (omega arith)
   where
     go : (from : ℕ) (qs : List ℕ) → Rising from qs → Among p qs → p < from → ⊥
+    go from [] l k m = elim k [ ]
     go from (q ∷ qs) l (inl e) m = omega (arith, l.0)
     go from (q ∷ qs) l (inr n) m = go (suc q) qs l.1 n (omega (arith, l.0))
 
@@ -79,6 +80,7 @@ module _ (image : List ℕ) where
 
   listed_only : (cs : List Found) (p : ℕ) → Among p (positions_of image cs) → Deleted image cs p
   unfolding positions_of
+  listed_only [] p h = elim h [ ]
   listed_only (c ∷ cs) p h = go (is_deleted image c) refl h (listed_only cs p)
     where
       go : (t : Bool) → is_deleted image c ≡ t → Among p (cond t (c.place ∷ positions_of image cs) (positions_of image cs))
@@ -89,6 +91,7 @@ module _ (image : List ℕ) where
 
   listed_all : (cs : List Found) (c : Found) (p : ℕ) → Among c cs → c.place ≡ p → is_deleted image c ≡ true → Among p (positions_of image cs)
   unfolding positions_of
+  listed_all [] c p h e g = elim h [ ]
   listed_all (d ∷ cs) c p (inl f) e g = simp (ap (is_deleted image) (sym f) ∙ g) (inl (sym e ∙ ap (λ (x : Found). x.place) f))
   listed_all (d ∷ cs) c p (inr k) e g = go (is_deleted image d) (listed_all cs c p k e g)
     where

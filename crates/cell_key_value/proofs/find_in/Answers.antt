@@ -2,6 +2,7 @@ use mathlib.Core.Path.{refl, sym, ap, ◌∙◌}
 use Rattle.words.specs.Paper.{refused, told}
 use Rattle.words.specs.declared.Refusal.{Refusal}
 use Rattle.cell_key_node.specs.ValueList.{entry_of}
+use Rattle.cell_key_value.specs.Lookup.{refusal_of}
 use Rattle.cell_key_value.proofs.Lookups.{unreadable, match, no_match, none_left}
 use borrow.Author.Rules.{rules}
 use Rattle.cell_key_value.proofs.find_in.Goals as goal
@@ -16,7 +17,7 @@ returns-in_default c =
     let a = c.args in
     let l = c.loop-i in
     let e = sym c.in_default.ensures in
-    ap (λ (f : Refusal). refused (told f)) (c.in_default.ensures)
+    ap (λ (f : Refusal). refused (told f)) (c.refusal_of-refusal.ensures ∙ ap refusal_of c.in_default.is)
     ∙ sym (unreadable a.image.now a.base a.name.now (entry_of a.list.now) a.count l.i c.loop-i-test.true c.u32_at-entry.result c.u32_at-entry.ensures _ e)
     ∙ l.invariant.1
 

@@ -35,7 +35,7 @@ pub loop-cell-preserved : goal.loop-cell-preserved
 loop-cell-preserved c =
     let w = c in
     let is = ap step_paper (sym c.in-Cell.is) ∙ w.tell.ensures in
-    goes _ _ _ _ _ _ _ _ w.loop-cell.invariant _ is _ (rw (held c.struct_told-1.given.1.0.1 refl) at c.is_deleted_lem.ensures) (omega arith) c.note-n.ensures
+    goes _ _ _ _ _ _ _ _ w.loop-cell.invariant _ is _ (rw (held c.struct_told-1.given.1.0.1 refl) at c.is_deleted-listed.ensures) (omega arith) c.note-n.ensures
 
 pub returns-in-End : goal.returns-in-End
 returns-in-End c =

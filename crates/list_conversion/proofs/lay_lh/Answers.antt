@@ -14,7 +14,8 @@ returns-then-out-size c =
 
 pub put_header-requires : goal.put_header-requires
 put_header-requires c =
-    asks_header LH 8 lh-size _ c.cell_size-size.ensures c.args.out.now c.if-out-size.false
+    let both = asks_header LH 8 lh-size _ c.cell_size-size.ensures c.args.out.now c.if-out-size.false in
+    record { le_size = both.0; in_bounds = both.1 }
 
 pub put_lh_entries-requires : goal.put_lh_entries-requires
 put_lh_entries-requires c =
@@ -22,7 +23,8 @@ put_lh_entries-requires c =
 
 pub put_rest-requires : goal.put_rest-requires
 put_rest-requires c =
-    asks_rest LH 8 lh-size _ c.cell_size-size.ensures c.args.out.now c.if-out-size.false c.put_header.ensures _ (up_length _ _) c.put_lh_entries.ensures
+    let both = asks_rest LH 8 lh-size _ c.cell_size-size.ensures c.args.out.now c.if-out-size.false c.put_header.ensures _ (up_length _ _) c.put_lh_entries.ensures in
+    record { size_in_bounds = both.0; count_bound = both.1 }
 
 pub returns-in-Refused : goal.returns-in-Refused
 returns-in-Refused c =

@@ -16,7 +16,8 @@ returns-then-out-size c =
 
 pub put_header-requires : goal.put_header-requires
 put_header-requires c =
-    asks_header LI 4 li-size _ c.cell_size-size.ensures c.args.out.now c.if-out-size.false
+    let both = asks_header LI 4 li-size _ c.cell_size-size.ensures c.args.out.now c.if-out-size.false in
+    record { le_size = both.0; in_bounds = both.1 }
 
 pub put_li_entries-requires : goal.put_li_entries-requires
 put_li_entries-requires c =
@@ -24,7 +25,8 @@ put_li_entries-requires c =
 
 pub put_rest-requires : goal.put_rest-requires
 put_rest-requires c =
-    asks_rest LI 4 li-size _ c.cell_size-size.ensures c.args.out.now c.if-out-size.false c.put_header.ensures _ (up_length _ _) c.put_li_entries.ensures
+    let both = asks_rest LI 4 li-size _ c.cell_size-size.ensures c.args.out.now c.if-out-size.false c.put_header.ensures _ (up_length _ _) c.put_li_entries.ensures in
+    record { size_in_bounds = both.0; count_bound = both.1 }
 
 pub returns-in-Refused : goal.returns-in-Refused
 returns-in-Refused c =

@@ -11,4 +11,4 @@ returns c =
     let q = c.requires in
     let e = c.bytes_of-end.ensures in
     let w = c.put_bytes.ensures in
-    put_written w (put_true w (omega (arith, e, q.0, q.1))) ∙ ap (λ (k : ℕ). with_bytes a.out.now k (bytes_of (a.size - k) 0)) e
+    put_written w (put_true w (omega (arith, e, q.size_in_bounds, q.count_bound))) ∙ ap (λ (k : ℕ). with_bytes a.out.now k (bytes_of (a.size - k) 0)) e

@@ -6,9 +6,9 @@ use Rattle.key_totals.proofs.kept_of.Goals as goal
 pub returns-then-at-ge-PLACES : goal.returns-then-at-ge-PLACES
 returns-then-at-ge-PLACES c =
     let a = c.args in
-    ap refused c.told.ensures ∙ number-nowhere a.t1 a.position c.first-at.ensures c.if-at-ge-PLACES.true
+    ap refused c.told.ensures ∙ number-nowhere a.table a.position c.first-at.ensures c.if-at-ge-PLACES.true
 
 pub returns : goal.returns
 returns c =
     let a = c.args in
-    number_there a.t1 a.position c.first-at.ensures c.if-at-ge-PLACES.false
+    number_there a.table a.position c.first-at.ensures c.if-at-ge-PLACES.false

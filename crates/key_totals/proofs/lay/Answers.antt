@@ -7,6 +7,6 @@ pub returns : goal.returns
 unfolding laid
 returns c =
     let a = c.args in
-    ap (totals (set a.t1.places a.at a.place))
+    ap (totals (set a.table.places a.at a.place))
     (exchanged c.counted-before.ensures c.counted-after.ensures (search rules) (search rules)
     c.wrapping_sub_u64-rest.ensures.value c.wrapping_add_u64.ensures.value)

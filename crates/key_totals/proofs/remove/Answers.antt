@@ -9,12 +9,12 @@ pub returns-then-at-ge-PLACES : goal.returns-then-at-ge-PLACES
 returns-then-at-ge-PLACES c =
     let a = c.args in
     c.refuse.ensures
-    ∙ ap (refusing a.t1) c.told.ensures
-    ∙ remove-nowhere a.t1 a.position c.first-at.ensures c.if-at-ge-PLACES.true
+    ∙ ap (refusing a.table) c.told.ensures
+    ∙ remove-nowhere a.table a.position c.first-at.ensures c.if-at-ge-PLACES.true
 
 pub returns : goal.returns
 returns c =
     let a = c.args in
     let n = c.first-at.result in
-    ap (λ (t : Totals). outcome t (success (get_or a.t1.places n free).kept)) (c.lay.ensures ∙ ap (laid a.t1 n) c.nothing.ensures)
-    ∙ removed a.t1 a.position c.first-at.ensures c.if-at-ge-PLACES.false
+    ap (λ (t : Totals). outcome t (success (get_or a.table.places n free).kept)) (c.lay.ensures ∙ ap (laid a.table n) c.nothing.ensures)
+    ∙ removed a.table a.position c.first-at.ensures c.if-at-ge-PLACES.false

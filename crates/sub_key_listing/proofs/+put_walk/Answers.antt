@@ -10,58 +10,58 @@ use Rattle.sub_key_listing.proofs.Records.{records, room_of, space_of}
 use borrow.Author.Rules.{rules}
 use Rattle.sub_key_listing.proofs.+put_walk.Goals as goal
 
-pub put_walk-returns-then-left-eq0 : goal.put_walk-returns-then-left-eq0
-put_walk-returns-then-left-eq0 t c =
+pub returns-then-left-eq0 : goal.returns-then-left-eq0
+returns-then-left-eq0 t c =
     let a = c.args in
     goes_nowhere (records (length a.out.now)) (a.out.now, a.place) (kept_deep (ordinary a.image.now) a.left a.image.now a.base a.offset c.if-left-eq0.true)
 
-pub put_walk-put_leaf-requires : goal.put_walk-put_leaf-requires
-put_walk-put_leaf-requires t c =
+pub put_leaf-requires : goal.put_leaf-requires
+put_leaf-requires t c =
     let a = c.args in
     let e = sym c.in-Leaf.ensures in
     let k = kept_leaf (ordinary a.image.now) a.left a.image.now a.base a.offset c.if-left-eq0.false e in
-    (standing_entries (leaf_stands a.image.now _ _ _ _ e), space_of _ a.out.now a.place (length a.out.now) (ready_as (records (length a.out.now)) {x = (a.out.now, a.place)} k (room_of _ a.out.now a.place c.requires.1)))
+    record { there = standing_entries (leaf_stands a.image.now _ _ _ _ e); space = space_of _ a.out.now a.place (length a.out.now) (ready_as (records (length a.out.now)) {x = (a.out.now, a.place)} k (room_of _ a.out.now a.place c.requires)) }
 
-pub put_walk-loop-i-init : goal.put_walk-loop-i-init
-put_walk-loop-i-init t c =
+pub loop-i-init : goal.loop-i-init
+loop-i-init t c =
     let a = c.args in
     let e = sym c.in-Index.ensures in
     spreading_start (records (length a.out.now)) (trace (ordinary a.image.now) (a.left - 1) a.image.now a.base) a.image.now _ _ (a.out.now, a.place)
-    (ready_as (records (length a.out.now)) {x = (a.out.now, a.place)} (kept_index (ordinary a.image.now) a.left a.image.now a.base a.offset c.if-left-eq0.false e) (room_of _ a.out.now a.place c.requires.1))
+    (ready_as (records (length a.out.now)) {x = (a.out.now, a.place)} (kept_index (ordinary a.image.now) a.left a.image.now a.base a.offset c.if-left-eq0.false e) (room_of _ a.out.now a.place c.requires))
 
-pub put_walk-put_walk-to-requires : goal.put_walk-put_walk-to-requires
-put_walk-put_walk-to-requires t c =
+pub put_walk-to-requires : goal.put_walk-to-requires
+put_walk-to-requires t c =
     let a = c.args in (
-      omega (arith, c.requires.0, c.if-left-eq0.false),
+      omega (arith, c.if-left-eq0.false),
       space_of (kept_of (trace (ordinary a.image.now) (a.left - 1) a.image.now a.base c.u32_at-next.result)) c.loop-i.out c.loop-i.to (length a.out.now)
           (spreading_ready (records (length a.out.now)) (trace (ordinary a.image.now) (a.left - 1) a.image.now a.base) a.image.now _ _ (a.out.now, a.place) _ _ _ c.loop-i.invariant c.loop-i-test.true c.u32_at-next.ensures),
     )
 
-pub put_walk-overflow_add-pos-in-loop-i : goal.put_walk-overflow_add-pos-in-loop-i
-put_walk-overflow_add-pos-in-loop-i t c =
+pub overflow_add-pos-in-loop-i : goal.overflow_add-pos-in-loop-i
+overflow_add-pos-in-loop-i t c =
     let n = c.loop-i.invariant.near in search rules
 
-pub put_walk-loop-i-preserved : goal.put_walk-loop-i-preserved
-put_walk-loop-i-preserved t c =
+pub loop-i-preserved : goal.loop-i-preserved
+loop-i-preserved t c =
     let a = c.args in
     spreading_step (records (length a.out.now)) (trace (ordinary a.image.now) (a.left - 1) a.image.now a.base) a.image.now _ _ (a.out.now, a.place) _ _ _ c.loop-i.invariant c.loop-i-test.true c.u32_at-next.ensures c.put_walk-to.ensures
 
-pub put_walk-returns-in-Refused : goal.put_walk-returns-in-Refused
-put_walk-returns-in-Refused t c =
+pub returns-in-Refused : goal.returns-in-Refused
+returns-in-Refused t c =
     let a = c.args in
     goes_nowhere (records (length a.out.now)) (a.out.now, a.place) (kept_bad (ordinary a.image.now) a.left a.image.now a.base a.offset c.if-left-eq0.false (sym c.in-Refused.ensures))
 
-pub put_walk-returns-in-Leaf : goal.put_walk-returns-in-Leaf
-put_walk-returns-in-Leaf t c =
+pub returns-in-Leaf : goal.returns-in-Leaf
+returns-in-Leaf t c =
     let a = c.args in
     goes_as (records (length a.out.now)) {x = (a.out.now, a.place)} (kept_leaf (ordinary a.image.now) a.left a.image.now a.base a.offset c.if-left-eq0.false (sym c.in-Leaf.ensures)) c.put_leaf.ensures
 
-pub put_walk-shape_of-out-after-loop-i : goal.put_walk-shape_of-out-after-loop-i
-put_walk-shape_of-out-after-loop-i t c =
+pub shape_of-out-after-loop-i : goal.shape_of-out-after-loop-i
+shape_of-out-after-loop-i t c =
     c.loop-i.invariant.going.ready.0
 
-pub put_walk-returns-after-loop-i : goal.put_walk-returns-after-loop-i
-put_walk-returns-after-loop-i t c =
+pub returns-after-loop-i : goal.returns-after-loop-i
+returns-after-loop-i t c =
     let a = c.args in
     goes_as (records (length a.out.now)) {x = (a.out.now, a.place)} (kept_index (ordinary a.image.now) a.left a.image.now a.base a.offset c.if-left-eq0.false (sym c.in-Index.ensures))
     (spreading_end (records (length a.out.now)) (trace (ordinary a.image.now) (a.left - 1) a.image.now a.base) a.image.now _ _ (a.out.now, a.place) _ _ _ c.loop-i.invariant c.loop-i-test.false)

@@ -12,7 +12,7 @@ returns-then-not-formed c =
 pub is_right-right-requires : goal.is_right-right-requires
 is_right-right-requires c =
     let a = c.args in
-    (test_passed _ c.is_listing-formed.ensures (ap not c.if-not-formed.false), kept_number a.image.now a.key a.budget _ (walk_counts a.image.now a.key a.budget a.listing.now c.is_listing-formed.ensures (ap not c.if-not-formed.false) c.sub_key_counts_of.ensures c.in-Read.is))
+    record { formed = test_passed _ c.is_listing-formed.ensures (ap not c.if-not-formed.false); counted = kept_number a.image.now a.key a.budget _ (walk_counts a.image.now a.key a.budget a.listing.now c.is_listing-formed.ensures (ap not c.if-not-formed.false) c.sub_key_counts_of.ensures c.in-Read.is) }
 
 pub returns-then-not-right : goal.returns-then-not-right
 returns-then-not-right c =

@@ -11,7 +11,8 @@ returns-then-listing-needed c =
 
 pub offsets_agree-agreeing-requires : goal.offsets_agree-agreeing-requires
 offsets_agree-agreeing-requires c =
-    let l = c.if-listing-needed.false in (c.requires.counted, omega arith)
+    let l = c.if-listing-needed.false in
+    record { counted = c.requires.counted; room = omega arith }
 
 pub returns : goal.returns
 returns c =

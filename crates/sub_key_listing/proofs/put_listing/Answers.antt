@@ -6,7 +6,7 @@ use Rattle.sub_key_listing.proofs.put_listing.Goals as goal
 pub put_offsets-end-requires : goal.put_offsets-end-requires
 put_offsets-end-requires c =
     let a = c.args in
-    (c.requires.counted, omega (arith, c.requires.counted, opened_room a.out.now a.key.base a.key.position (offsets_of a.image.now a.key) (omega (arith, c.requires.counted, c.requires.room)) c.put_opening.ensures))
+    record { counted = c.requires.counted; room = omega (arith, c.requires.counted, opened_room a.out.now a.key.base a.key.position (offsets_of a.image.now a.key) (omega (arith, c.requires.counted, c.requires.room)) c.put_opening.ensures) }
 
 pub put_plain-requires : goal.put_plain-requires
 put_plain-requires c =

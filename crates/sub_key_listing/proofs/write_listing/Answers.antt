@@ -9,7 +9,7 @@ returns-then-out-whole c =
 pub put_listing-requires : goal.put_listing-requires
 put_listing-requires c =
     let a = c.args in
-    (kept_of a.image.now a.key a.budget a.out.now _ c.sub_key_counts_of.ensures c.in-Read.is c.all_told-whole.ensures, kept_room a.image.now a.key a.budget a.out.now _ c.sub_key_counts_of.ensures c.in-Read.is c.all_told-whole.ensures c.if-out-whole.false)
+    record { counted = kept_of a.image.now a.key a.budget a.out.now _ c.sub_key_counts_of.ensures c.in-Read.is c.all_told-whole.ensures; room = kept_room a.image.now a.key a.budget a.out.now _ c.sub_key_counts_of.ensures c.in-Read.is c.all_told-whole.ensures c.if-out-whole.false }
 
 pub returns-in-Refused : goal.returns-in-Refused
 returns-in-Refused c =

@@ -11,12 +11,13 @@ use super::{console, totals};
 use base_block::{BaseBlock, BlockAnswer};
 use bins_arriving::BinsSoFar;
 use hive_bin::BinsAnswer;
+use std::io::Read;
 
 // Where the bins begin.
 const BASE: u32 = 4096;
 
 // One read of at most so many bytes, into the start of the page.
-fn read_piece(input: i32, page: &mut [u8], most: usize) -> Input
+fn read_piece<R: Read>(input: &mut R, page: &mut [u8], most: usize) -> Input
     ensures within { Within result.«bytes» page.new }
     ensures bytes_bound { result.«bytes» ≤ most }
 {
@@ -43,7 +44,7 @@ struct Arrived {
 
 // Reads the bins, each piece a part, until all of them have come, a part is refused, the input ends or a read fails. No more is asked for
 // than remains of them: so no part is refused by 18, and what stands behind the bins is not read.
-fn read_bins(input: i32, page: &mut [u8], size: u32) -> Arrived {
+fn read_bins<R: Read>(input: &mut R, page: &mut [u8], size: u32) -> Arrived {
     let mut state = bins_arriving::begin(BASE, size);
     let mut remaining = size as usize;
     let mut failed = false;
@@ -71,7 +72,7 @@ fn answer_line(answer: BinsAnswer) -> bool {
 }
 
 // The lines are printed when the bins are read, so that nothing is printed of an input that cannot be read.
-fn list_bins(input: i32, page: &mut [u8], block: BaseBlock) {
+fn list_bins<R: Read>(input: &mut R, page: &mut [u8], block: BaseBlock) {
     let arrived = read_bins(input, page, block.hive_bins_data_size);
     if arrived.failed {
         console::unread();
@@ -81,8 +82,8 @@ fn list_bins(input: i32, page: &mut [u8], block: BaseBlock) {
     console::tell(console::base_line(block) & answer_line(bins_arriving::finish(state)));
 }
 
-// Lists the bins of what a file descriptor delivers.
-pub fn list_input(input: i32) {
+// Lists the bins of what an input delivers.
+pub fn list_input<R: Read>(input: &mut R) {
     let mut page = [0u8; 4096];
     let read = console::read_input(input, &mut page);
     let n = read.bytes;

@@ -3,6 +3,7 @@
 use super::console;
 use base_block::BlockAnswer;
 use deleted_keys::DeletedAnswer;
+use std::io::Read;
 
 // Where the bins begin.
 const BASE: u32 = 4096;
@@ -42,7 +43,7 @@ fn list(image: &[u8]) -> bool {
 }
 
 // Lists the deleted keys of what a file descriptor delivers: at most 65,536 bytes.
-pub fn list_input(input: i32) {
+pub fn list_input<R: Read>(input: &mut R) {
     let mut image = [0u8; 65536];
     let hive = console::read_hive(input, &mut image);
     let n = hive.bytes;

@@ -4,6 +4,7 @@ use super::{console, totals};
 use base_block::BlockAnswer;
 use cell_key_node::{KeyAnswer, KeyNode};
 use hive_bin::BinsAnswer;
+use std::io::Read;
 use sub_key_walk::{Counts, WalkAnswer};
 
 // Where the bins begin, and the most lists that the walk reads.
@@ -73,8 +74,8 @@ fn list(image: &[u8]) -> bool {
     }
 }
 
-// Lists what a file descriptor delivers: at most 65,536 bytes.
-pub fn list_input(input: i32) {
+// Lists what an input delivers: at most 65,536 bytes.
+pub fn list_input<R: Read>(input: &mut R) {
     let mut image = [0u8; 65536];
     let hive = console::read_hive(input, &mut image);
     let n = hive.bytes;

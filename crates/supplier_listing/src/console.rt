@@ -1,8 +1,9 @@
-// What the listings have in common: a hive read from a file descriptor, the lines of its base block, of a position and of a refusal, and
+// What the listings have in common: a hive that is read, the lines of its base block, of a position and of a refusal, and
 // what is told on standard error.
 ghost use Rattle.io.specs.Counts.{IsPrefixLen as Within};
 
 use base_block::BaseBlock;
+use std::io::Read;
 
 // Whatever prints says whether all of it was taken.
 pub fn text(s: &[u8]) -> bool {
@@ -59,17 +60,23 @@ pub struct Input {
 }
 
 // One read.
-pub fn read_once(input: i32, rest: &mut [u8]) -> Input
+pub fn read_once<R: Read>(input: &mut R, rest: &mut [u8]) -> Input
     ensures { Within result.«bytes» rest.new }
 {
-    let got = libc::read(input, rest);
-    let bytes = io::count(got, rest);
-    let failed = got < 0;
-    Input { bytes, failed }
+    match input.read(rest) {
+        Ok(bytes) => Input {
+            bytes,
+            failed: false,
+        },
+        Err(_) => Input {
+            bytes: 0,
+            failed: true,
+        },
+    }
 }
 
 // Reads until the image is full, the input ends or a read fails.
-pub fn read_input(input: i32, image: &mut [u8]) -> Input
+pub fn read_input<R: Read>(input: &mut R, image: &mut [u8]) -> Input
     ensures { Within result.«bytes» image.new }
 {
     let mut bytes: usize = 0;
@@ -106,8 +113,8 @@ pub struct Hive {
     pub unread: bool,
 }
 
-// Reads a hive from a file descriptor, in however many pieces, into an image that takes the whole of it, and looks for one byte more.
-pub fn read_hive(input: i32, image: &mut [u8]) -> Hive
+// Reads a hive, in however many pieces, into an image that takes the whole of it, and looks for one byte more.
+pub fn read_hive<R: Read>(input: &mut R, image: &mut [u8]) -> Hive
     ensures { Within result.«bytes» image.new }
 {
     let read = read_input(input, image);

@@ -4,9 +4,9 @@ use lib.ListN.{length}
 use Rattle.deleted_listing.proofs.console.read_input.Given as goal
 
 abbrev pub invariant-loop-bytes : goal.invariant-loop-bytes
-invariant-loop-bytes l =
+invariant-loop-bytes g l =
     (l.bytes ≤ length l.image) × (length l.image ≡ length l.initial.image)
 
 abbrev pub decreases-loop-bytes : goal.decreases-loop-bytes
-decreases-loop-bytes l =
+decreases-loop-bytes g l =
     length l.image - l.bytes

@@ -1,5 +1,6 @@
 // The base block of a hive, its first 4,096 bytes, and its checksum.
 #![tactic(auto)]
+
 ghost use Rattle.std.specs.Prelude.{◌≡◌, ◌*◌, ◌≤◌, length};
 ghost use Rattle.words.specs.Parts.{Part};
 ghost use Rattle.base_block.specs.Checksum.{xor_of, mended, checksum_of};

@@ -1,5 +1,6 @@
 // Checksums and base blocks at their boundaries, a labelled line for each case; `stdout` has what document 01 says of each.
 #![tactic(auto)]
+
 use base_block::{BaseBlock, BlockAnswer, Checksum, FileFormat, FileType};
 use words::Refusal;
 

@@ -1,7 +1,9 @@
 // Cases of the check of bins, one line each: what it is about, and the answer. `bins` is followed by the bins, the allocated and the
 // free cells, and the bytes of both; `refused` by the number and the position.
 #![tactic(auto)]
+
 use hive_bin::{BinTotals, BinsAnswer};
+
 const STDOUT_FILENO: i32 = 1;
 
 // A place past every image: a word set there changes nothing.

@@ -1,6 +1,7 @@
 // Bins as they arrive (document 02, order 6): the check of bins and cells over parts that come one after another. What is known between
 // two parts is a small record by value; no part is kept, and the inside of a cell is passed over by counting.
 #![tactic(auto)]
+
 ghost use Rattle.std.specs.Prelude.{◌≡◌, ◌+◌, ◌-◌, ◌≤◌, ◌<◌, length};
 ghost use Rattle.hive_bin.specs.Totals.{one_bin};
 ghost use Rattle.hive_bin.specs.Answers.{bins_paper};

@@ -1,5 +1,6 @@
 // A cell at a position: whether it lies in the image, and whether it is large enough for what a reader wants of it.
 #![tactic(auto)]
+
 ghost use Rattle.std.specs.Prelude.{◌≡◌};
 ghost use Rattle.words.specs.Paper.{refused, by};
 ghost use Rattle.cell.specs.Cells.{size_at, cell_at, cell_paper};

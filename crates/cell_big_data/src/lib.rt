@@ -1,5 +1,6 @@
 // Big data cells.
 #![tactic(auto)]
+
 ghost use Rattle.std.specs.Prelude.{◌≡◌};
 ghost use Rattle.cell_big_data.specs.Big.{is_big_data_block};
 

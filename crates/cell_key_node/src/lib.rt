@@ -1,6 +1,7 @@
 // Key records: the record at a position, its name and its slack as parts of the image, and its value list by plain
 // numbers. The checks of a record are shared with the value records.
 #![tactic(auto)]
+
 ghost use Rattle.std.specs.Prelude.{◌≡◌, ◌≤◌, ◌++◌, length, drop};
 ghost use Rattle.words.specs.Paper.{verdict_paper};
 ghost use Rattle.words.specs.Parts.{Part};

@@ -1,5 +1,6 @@
 // Value records: the record at a position, its name as a part of the image, and the lookup of a value by its name.
 #![tactic(auto)]
+
 ghost use Rattle.std.specs.Prelude.{◌≡◌};
 ghost use Rattle.words.specs.Parts.{Part};
 ghost use Rattle.cell_key_node.specs.ValueList.{up_to, entry_of};

@@ -2,6 +2,7 @@
 // bins and a spot. The checker's own walk covers no function over a struct that holds a slice, so the proofs of these are written by hand, and each is
 // thin: the work is `hive_bin::step_at`. Whoever calls `tell` needs no such proof.
 #![tactic(auto)]
+
 ghost use Rattle.std.specs.Prelude.{◌≡◌};
 ghost use Rattle.hive_bin.specs.Steps.{step_at, step_paper};
 

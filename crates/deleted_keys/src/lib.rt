@@ -1,6 +1,7 @@
 // Keys that were deleted: the image positions of the free cells of the bins that read as key records (document 02, order 4). The
 // bins are gone through by the reader of `cell_reader` alone, once to judge and count and once to write.
 #![tactic(auto)]
+
 ghost use Rattle.std.specs.Prelude.{◌≡◌, ◌+◌, ◌^◌, ◌≤◌, ◌<◌, length};
 ghost use Rattle.words.specs.Paper.{refused, tell};
 ghost use Rattle.deleted_keys.specs.Deleted.{is_deleted, deleted_paper, DeletedAnswered};

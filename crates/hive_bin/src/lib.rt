@@ -1,5 +1,6 @@
 // Bins and cells: the bins of a hive checked, each with its cells, and totalled; and a step from cell to cell of them.
 #![tactic(auto)]
+
 ghost use Rattle.std.specs.Prelude.{◌≡◌, ◌+◌, ◌-◌, ◌≤◌, length};
 ghost use Rattle.hive_bin.specs.Walk.{row, cell_row, cell_size, header_size, bin_size, bins_in};
 ghost use Rattle.hive_bin.specs.Totals.{no_totals, one_bin, cell_totals, together, Room, answer_of, bins_of};

@@ -2,6 +2,7 @@
 // and name, the hash of the name, in an `lh` list the hash that Samba stored, and two lookups in upper case: `VALUE1`, which Samba
 // wrote as `Value1`, and `VALUE2`.
 #![tactic(auto)]
+
 use cell_key_node::{KeyAnswer, KeyNode};
 use cell_key_value::LookupAnswer;
 use name_hash::HashAnswer;

@@ -1,6 +1,7 @@
 // README.md's row of calls for an integrator, on the hives of data/: a short function for each step, to be copied. Every answer is
 // taken apart by `match`, and the first refusal ends a step with its number and position.
 #![tactic(auto)]
+
 use base_block::BlockAnswer;
 use cell_key_node::{KeyAnswer, KeyNode, ValueListAnswer};
 use cell_key_value::{KeyValue, LookupAnswer, ValueAnswer};

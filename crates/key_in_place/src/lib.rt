@@ -1,6 +1,7 @@
 // What a key record leads to, from the record: its subkeys, its value list, a value by its name. A record is taken only with an image in
 // which it stands (document 02, order 11); the base is the record's.
 #![tactic(auto)]
+
 ghost use Rattle.std.specs.Prelude.{◌≡◌};
 ghost use Rattle.words.specs.Refusals.{OTHER_PLACE};
 ghost use Rattle.words.specs.Paper.{refused, by};

@@ -1,6 +1,7 @@
 // Totals beside the keys (document 02, order 7): a table of up to 256 keys of one image, each with the number of its subkeys, and the sum of
 // these numbers stored beside them. It goes in by value and comes back with the answer; nothing is walked to read it.
 #![tactic(auto)]
+
 ghost use Rattle.std.specs.Prelude.{◌≡◌, ◌<◌};
 ghost use Rattle.words.specs.Refusals.{OTHER_PLACE};
 ghost use Rattle.words.specs.Paper.{tell, by};

@@ -1,6 +1,7 @@
 // Subkey lists written anew: an `li` list as an allocated `lh` cell, and an `lh` list as an allocated `li` cell. Every function takes any
 // list, position, image, base and buffer. All is judged first and written after: a refusal changes no byte of the buffer.
 #![tactic(auto)]
+
 ghost use Rattle.std.specs.Prelude.{◌≡◌, ◌+◌, ◌*◌, ◌-◌, ◌≤◌, length};
 ghost use Rattle.words.specs.Refusals.{BAD_SIGN};
 ghost use Rattle.words.specs.Paper.{refused, by, told, verdict_paper};

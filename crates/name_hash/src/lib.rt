@@ -1,5 +1,6 @@
 // The hash of a key's name, as `lh` lists store it beside each key's offset.
 #![tactic(auto)]
+
 ghost use Rattle.std.specs.Prelude.{◌≡◌, ◌+◌, ◌*◌, ◌%◌, ◌^◌};
 ghost use Rattle.name_hash.specs.Characters.{between, upper_of, character_of};
 ghost use Rattle.name_hash.specs.Hash.{hash_of, name_hash_of, hash_paper};

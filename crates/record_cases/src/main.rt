@@ -1,6 +1,7 @@
 // Key records, value records, value lists, lookups and hashes at their boundaries, a line for each: what is tried, a colon, and
 // the answer. Every place of a list's buffer stands behind `|`, and held 7 before.
 #![tactic(auto)]
+
 use cell_key_node::{KeyAnswer, KeyNode, ValueListAnswer};
 use cell_key_value::{KeyValue, LookupAnswer, ValueAnswer};
 use name_hash::HashAnswer;

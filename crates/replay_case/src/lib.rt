@@ -1,6 +1,7 @@
 // What the replaying programs share: the words of a case of the stream (compare/README.md), and the sums by which a row of numbers
 // is told.
 #![tactic(auto)]
+
 ghost use Rattle.std.specs.Prelude.{◌≡◌, length};
 ghost use Rattle.words.specs.Words.{byte_at};
 ghost use Rattle.replay_case.specs.Case.{fresh, renewed};

@@ -2,6 +2,7 @@
 // each, of what the project's functions answer. The stored cases have the answers of document 02 as compare/paper.py reads it. What is not in
 // answers.rt is replay_paper's, by a link: that program answers these cases too, and here they have a stored output of their own.
 #![tactic(auto)]
+
 mod answers;
 mod bytes;
 mod lines;

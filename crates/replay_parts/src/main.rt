@@ -3,6 +3,9 @@
 // have the answers of document 02 as compare/paper.py reads it. What is not in answers.rt is replay_paper's, by a link: that program answers these
 // cases too, and here they have a stored output of their own.
 #![tactic(auto)]
+
+ghost use Rattle.std.specs.Prelude.{◌≡◌, length};
+
 mod answers;
 mod bytes;
 mod conversion;
@@ -15,9 +18,23 @@ mod totals;
 mod values;
 mod walks;
 
+// Zeros for the image and the name, and for the places. At a length that is a parameter the check need not count them; the `ensures` is what
+// lending the array as a slice needs.
+fn bytes_space<const N: usize>() -> [u8; N]
+    ensures { N ≡ length result }
+{
+    [0; N]
+}
+
+fn places_space<const N: usize>() -> [u32; N]
+    ensures { N ≡ length result }
+{
+    [0; N]
+}
+
 fn main() {
-    let mut image = [0u8; 524288];
-    let mut name = [0u8; 65536];
-    let mut out = [0u32; 262144];
+    let mut image = bytes_space::<524288>();
+    let mut name = bytes_space::<65536>();
+    let mut out = places_space::<262144>();
     stream::replay(&mut image, &mut name, &mut out);
 }

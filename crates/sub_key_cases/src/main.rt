@@ -2,6 +2,7 @@
 // `refused` with number, position, lists, places, entries and those dropped, and behind `|` every place of the buffer, which held 7 in
 // each before.
 #![tactic(auto)]
+
 ghost use Rattle.std.specs.Prelude.{◌≤◌};
 
 use sub_key_walk::WalkAnswer;

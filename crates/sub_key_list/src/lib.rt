@@ -1,5 +1,6 @@
 // One subkey list: what stands at a position, taken apart by kind. Every function takes any image and any position.
 #![tactic(auto)]
+
 ghost use Rattle.std.specs.Prelude.{◌≡◌, length, ◌+◌, ◌-◌, ◌*◌, ◌≤◌};
 ghost use Rattle.words.specs.Words.{word16};
 ghost use Rattle.words.specs.Paper.{refused, by, and_then, verdict_paper};

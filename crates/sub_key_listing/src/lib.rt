@@ -1,6 +1,7 @@
 // Listings of a key's subkeys, as another tool delivers them (document 02, order 12): one is checked against the walk, or written. The
 // walk is measured first; then it goes once more through the lists, beside the listing's records. Nothing is copied in between.
 #![tactic(auto)]
+
 ghost use Rattle.std.specs.Prelude.{◌≡◌, [], true, ◌+◌, ◌*◌, ◌≤◌, length};
 ghost use Rattle.words.specs.Paper.{refused, by};
 ghost use Rattle.sub_key_list.specs.Leaves.{keep, leaf_kept};

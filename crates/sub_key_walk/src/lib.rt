@@ -1,6 +1,7 @@
 // The subkeys of a key record: the walk from its list through the lists that `ri` lists name, depth first and in order; and those of
 // one leaf list. A walk is measured first and its buffer filled after, so that a refusal leaves the buffer as it was.
 #![tactic(auto)]
+
 ghost use Rattle.std.specs.Prelude.{◌≡◌, ◌+◌, ◌%◌, ◌≤◌, min, [], length};
 ghost use Rattle.words.specs.Words.{word32};
 ghost use Rattle.words.specs.Paper.{refused, no_room_told};

@@ -1,6 +1,7 @@
 // A value's data, whole: in its record's offset field, in a cell, or in the segments of a big data cell. All cells are judged before
 // a byte is copied.
 #![tactic(auto)]
+
 ghost use Rattle.std.specs.Prelude.{◌+◌, ◌≤◌, min, ◌≡◌, length};
 ghost use Rattle.words.specs.Refusals.{BAD_DATA};
 ghost use Rattle.words.specs.Paper.{verdict_paper};

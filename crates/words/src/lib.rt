@@ -1,6 +1,7 @@
 // Words read out of a slice, and the refusals: their numbers, and what one tells. Every function takes any slice and any position: a
 // byte past the end counts as 0, so that nothing above this crate has an index to prove.
 #![tactic(auto)]
+
 ghost use Rattle.std.specs.Prelude.{◌≡◌, ◌+◌, ◌-◌, ◌*◌, length, take, drop, nat_abs};
 ghost use Rattle.words.specs.Refusals.{numbers};
 ghost use Rattle.words.specs.Parts.{Part, start_of};

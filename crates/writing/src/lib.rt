@@ -1,6 +1,7 @@
 // Numbers written into a lent buffer of bytes, the lowest byte first. Every function takes any buffer and any place: all bytes are
 // written, or none is, and the answer says which.
 #![tactic(auto)]
+
 ghost use Rattle.std.specs.Prelude.{◌≡◌, ◌+◌, leb};
 ghost use Rattle.writing.specs.Writing.{PutAt};
 

@@ -63,6 +63,6 @@ returns c =
     let v = c.loop-i.invariant in
     let h = c.loop-i-test.false in
     elim c.if-half-n.branch [
-      then-half-n w ↦ bounding_odd a.image.now a.size a.n (a.n / 2) a.pos c.requires (omega arith) _ _ _ _ _ v h (let t = w.if-half-n.true in omega arith) w.offset_at-last.ensures w.further-is
-    | else-half-n w ↦ bounding_even a.image.now a.size a.n (a.n / 2) a.pos c.requires (omega arith) _ _ _ _ _ v h (let t = w.if-half-n.false in omega arith) w.further-is
+      | then-half-n w ↦ bounding_odd a.image.now a.size a.n (a.n / 2) a.pos c.requires (omega arith) _ _ _ _ _ v h (let t = w.if-half-n.true in omega arith) w.offset_at-last.ensures w.further-is
+      | else-half-n w ↦ bounding_even a.image.now a.size a.n (a.n / 2) a.pos c.requires (omega arith) _ _ _ _ _ v h (let t = w.if-half-n.false in omega arith) w.further-is
     ]

@@ -1,5 +1,5 @@
 -- Document 01, "Base block", second paragraph: the checksum.
-use Rattle.std.specs.Prelude.{ℕ, zero, suc, ◌+◌, ◌*◌, List, cond, length, ltb, eqb}
+use Rattle.std.specs.Prelude.{ℕ, zero, suc, ◌*◌, List, cond, length, ltb, eqb}
 use Rattle.std.specs.Int.Bits.{bit_xor}
 use Rattle.words.specs.Words.{word32}
 use Rattle.words.specs.Refusals.{SHORT}

@@ -1,6 +1,5 @@
 // A reader that stands on one cell of the lent bins and tells the cell and the next place (document 02, order 4). It is a struct of the
-// bins and a spot. The checker's own walk covers no function over a struct that holds a slice, so the proofs of these are written by hand, and each is
-// thin: the work is `hive_bin::step_at`. Whoever calls `tell` needs no such proof.
+// bins and a spot, and each function is thin: the work is `hive_bin::step_at`.
 #![tactic(auto)]
 
 ghost use Rattle.std.specs.Prelude.{◌≡◌};

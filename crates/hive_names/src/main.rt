@@ -3,9 +3,14 @@
 // wrote as `Value1`, and `VALUE2`.
 #![tactic(auto)]
 
+ghost use Rattle.io.specs.Counts.{IsPrefixLen as Within};
+
 use cell_key_node::{KeyAnswer, KeyNode};
 use cell_key_value::LookupAnswer;
 use name_hash::HashAnswer;
+use std::fs::File;
+use std::io::Read;
+use std::rt::Files;
 use sub_key_walk::WalkAnswer;
 use words::Refusal;
 
@@ -149,21 +154,47 @@ fn root(image: &[u8]) {
     }
 }
 
-fn hive(path: &[u8]) {
-    io::write_all(1, path);
-    let fd = os::open_read(path);
-    if fd < 0 {
-        io::write_all(1, b" is not there\n");
-        return;
+// One read: how many bytes came, none at the end and where it fails.
+fn read_once<R: Read>(input: &mut R, rest: &mut [u8]) -> usize
+    ensures { Within result rest.new }
+{
+    match input.read(rest) {
+        Ok(bytes) => bytes,
+        Err(_) => 0,
     }
-    let mut buffer = io::large_buffer();
-    let n = io::read_full(fd, &mut buffer);
-    libc::close(fd);
-    root(&buffer[..n]);
 }
 
-fn main() {
-    hive(b"samba-1.1-3k-2v.hive");
-    hive(b"samba-1.3-40k-3v.hive");
-    hive(b"samba-1.5-3k-2v.hive");
+// Reads until the buffer is full, the input ends or a read fails: how many bytes came.
+fn read_full<R: Read>(input: &mut R, buffer: &mut [u8]) -> usize
+    ensures { Within result buffer.new }
+{
+    let mut bytes: usize = 0;
+    while bytes < buffer.len() {
+        let got = read_once(input, &mut buffer[bytes..]);
+        if got == 0 {
+            break;
+        }
+        bytes += got;
+    }
+    bytes
+}
+
+fn hive<R: Files>(rt: &R, path: &str) {
+    io::write_all(1, path.as_bytes());
+    match File::open(rt, path) {
+        Err(_) => {
+            io::write_all(1, b" is not there\n");
+        }
+        Ok(mut file) => {
+            let mut buffer = io::large_buffer();
+            let n = read_full(&mut file, &mut buffer);
+            root(&buffer[..n]);
+        }
+    }
+}
+
+fn main(rt: HostRuntime) {
+    hive(&rt, "samba-1.1-3k-2v.hive");
+    hive(&rt, "samba-1.3-40k-3v.hive");
+    hive(&rt, "samba-1.5-3k-2v.hive");
 }

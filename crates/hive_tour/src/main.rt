@@ -2,6 +2,8 @@
 // taken apart by `match`, and the first refusal ends a step with its number and position.
 #![tactic(auto)]
 
+ghost use Rattle.io.specs.Counts.{IsPrefixLen as Within};
+
 use base_block::BlockAnswer;
 use cell_key_node::{KeyAnswer, KeyNode, ValueListAnswer};
 use cell_key_value::{KeyValue, LookupAnswer, ValueAnswer};
@@ -9,6 +11,9 @@ use deleted_keys::DeletedAnswer;
 use hive_bin::BinsAnswer;
 use key_totals::KeptAnswer;
 use list_conversion::ConversionAnswer;
+use std::fs::File;
+use std::io::Read;
+use std::rt::Files;
 use sub_key_walk::WalkAnswer;
 use value_data::DataAnswer;
 
@@ -329,25 +334,49 @@ fn tour(image: &[u8]) {
     }
 }
 
-fn hive(path: &[u8]) {
-    say(path);
-    line();
-    let fd = os::open_read(path);
-    if fd < 0 {
-        say(b" is not there\n");
-        return;
+// One read: how many bytes came, none at the end and where it fails.
+fn read_once<R: Read>(input: &mut R, rest: &mut [u8]) -> usize
+    ensures { Within result rest.new }
+{
+    match input.read(rest) {
+        Ok(bytes) => bytes,
+        Err(_) => 0,
     }
-    let mut buffer = io::large_buffer();
-    let n = io::read_full(fd, &mut buffer);
-    libc::close(fd);
-    tour(&buffer[..n]);
 }
 
-fn main() {
-    hive(b"samba-1.1-3k-2v.hive");
-    hive(b"samba-1.3-40k-3v.hive");
-    hive(b"samba-1.5-3k-2v.hive");
-    hive(b"samba-1.1-3k-2v-repaired.hive");
-    hive(b"samba-1.3-40k-3v-repaired.hive");
-    hive(b"samba-1.5-3k-2v-repaired.hive");
+// Reads until the buffer is full, the input ends or a read fails: how many bytes came.
+fn read_full<R: Read>(input: &mut R, buffer: &mut [u8]) -> usize
+    ensures { Within result buffer.new }
+{
+    let mut bytes: usize = 0;
+    while bytes < buffer.len() {
+        let got = read_once(input, &mut buffer[bytes..]);
+        if got == 0 {
+            break;
+        }
+        bytes += got;
+    }
+    bytes
+}
+
+fn hive<R: Files>(rt: &R, path: &str) {
+    say(path.as_bytes());
+    line();
+    match File::open(rt, path) {
+        Err(_) => say(b" is not there\n"),
+        Ok(mut file) => {
+            let mut buffer = io::large_buffer();
+            let n = read_full(&mut file, &mut buffer);
+            tour(&buffer[..n]);
+        }
+    }
+}
+
+fn main(rt: HostRuntime) {
+    hive(&rt, "samba-1.1-3k-2v.hive");
+    hive(&rt, "samba-1.3-40k-3v.hive");
+    hive(&rt, "samba-1.5-3k-2v.hive");
+    hive(&rt, "samba-1.1-3k-2v-repaired.hive");
+    hive(&rt, "samba-1.3-40k-3v-repaired.hive");
+    hive(&rt, "samba-1.5-3k-2v-repaired.hive");
 }

@@ -1,7 +1,9 @@
 // Replays the part of the stored cases (compare/README.md) that is about listings of a key's subkeys, checked and written: a whole line for
 // each, of what the project's functions answer. The stored cases have the answers of document 02 as compare/paper.py reads it. What is not in
-// answers.rt is replay_paper's, by a link: that program answers these cases too, and here they have a stored output of their own.
+// answers.rt is a copy of replay_paper's: that program answers these cases too, and here they have a stored output of their own.
 #![tactic(auto)]
+
+ghost use Rattle.std.specs.Prelude.{◌≡◌, length};
 
 mod answers;
 mod bytes;
@@ -9,9 +11,17 @@ mod lines;
 mod listings;
 mod stream;
 
+// Zeros for the image and the name. At a length that is a parameter the check need not count them; the `ensures` is what
+// lending the array as a slice needs.
+fn bytes_space<const N: usize>() -> [u8; N]
+    ensures { N ≡ length result }
+{
+    [0; N]
+}
+
 fn main() {
-    let mut image = [0u8; 524288];
-    let mut name = [0u8; 65536];
+    let mut image = bytes_space::<524288>();
+    let mut name = bytes_space::<65536>();
     let mut out = [0u32; 1];
     stream::replay(&mut image, &mut name, &mut out);
 }

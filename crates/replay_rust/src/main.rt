@@ -1,6 +1,6 @@
 // Replays a stream of cases (compare/README.md): a line for each, of what the project's functions answer, with no more than the
 // Rust tells: `error` for a refusal, `empty` for one that the Rust answers so. The stored cases have the Rust's own answers.
-// How the stream is read and how values are written is replay_paper's, by a link.
+// How the stream is read and how values are written is replay_paper's: the files are copies of its own.
 #![tactic(auto)]
 
 ghost use Rattle.std.specs.Prelude.{◌≡◌, length};

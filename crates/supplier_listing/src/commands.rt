@@ -6,6 +6,9 @@ use super::console::Hive;
 use super::supplier::Which;
 use super::{console, supplier};
 use cell_key_node::KeyAnswer;
+use std::env;
+use std::fs::File;
+use std::io::Result;
 
 // The words of a command.
 const VERB: u8 = 0;
@@ -28,9 +31,12 @@ enum Said {
     Nothing,
 }
 
-// The argument that is a word of a command.
-fn argument(command: u16, word: u8) -> usize {
-    1 + 4 * (command as usize) + (word as usize)
+// A word of a command.
+fn argument(all: &[String], command: u16, word: u8) -> &str {
+    match all.get(1 + 4 * (command as usize) + (word as usize)) {
+        Some(text) => text.as_str(),
+        None => "",
+    }
 }
 
 // Whether a word is this text.
@@ -48,10 +54,8 @@ fn is(word: &[u8], text: &[u8]) -> bool {
     true
 }
 
-fn says(command: u16, word: u8, text: &[u8]) -> bool {
-    let mut space = io::buffer();
-    let n = os::arg(argument(command, word), &mut space);
-    is(&space[..n], text)
+fn says(all: &[String], command: u16, word: u8, text: &[u8]) -> bool {
+    is(argument(all, command, word).as_bytes(), text)
 }
 
 fn digit_of(byte: u8) -> usize {
@@ -100,29 +104,26 @@ fn key_of(word: &[u8]) -> Said {
     position_of(word)
 }
 
-fn key_word(command: u16) -> Said {
-    let mut space = io::buffer();
-    let n = os::arg(argument(command, KEY), &mut space);
-    key_of(&space[..n])
-}
-
-fn open(name: &[u8]) -> i32 {
-    if is(name, b"-") {
-        return libc::STDIN_FILENO;
-    }
-    os::open_read(name)
+fn key_word(all: &[String], command: u16) -> Said {
+    key_of(argument(all, command, KEY).as_bytes())
 }
 
 // Reads the file that a word names. One that cannot be opened cannot be read.
-fn read_file(command: u16, word: u8, image: &mut [u8]) -> Hive
+fn read_file(rt: &HostRuntime, name: &str, image: &mut [u8]) -> Hive
     ensures { Within result.«bytes» image.new }
 {
-    let mut space = io::buffer();
-    let n = os::arg(argument(command, word), &mut space);
-    let input = open(&space[..n]);
-    let read = console::read_hive(input, image);
-    libc::close(input);
-    read
+    if is(name.as_bytes(), b"-") {
+        let mut input = rt.stdin();
+        return console::read_hive(&mut input, image);
+    }
+    match File::open(rt, name) {
+        Ok(mut input) => console::read_hive(&mut input, image),
+        Err(_) => Hive {
+            bytes: 0,
+            large: false,
+            unread: true,
+        },
+    }
 }
 
 // A listing that cannot be read, told on standard error.
@@ -136,9 +137,9 @@ fn no_command() {
 }
 
 // Checks a listing of at most 65,536 bytes.
-fn check(image: &[u8], key: KeyAnswer, command: u16) {
+fn check(rt: &HostRuntime, all: &[String], image: &[u8], key: KeyAnswer, command: u16) {
     let mut listing = [0u8; 65536];
-    let file = read_file(command, LISTING, &mut listing);
+    let file = read_file(rt, argument(all, command, LISTING), &mut listing);
     let n = file.bytes;
     if file.unread {
         unread_listing();
@@ -151,29 +152,29 @@ fn check(image: &[u8], key: KeyAnswer, command: u16) {
     console::tell(supplier::check(image, key, &listing[..n]));
 }
 
-fn answer(image: &[u8], key: KeyAnswer, command: u16) {
-    if says(command, VERB, b"check") {
-        check(image, key, command);
+fn answer(rt: &HostRuntime, all: &[String], image: &[u8], key: KeyAnswer, command: u16) {
+    if says(all, command, VERB, b"check") {
+        check(rt, all, image, key, command);
         return;
     }
-    if says(command, VERB, b"write") & says(command, LISTING, b"-") {
+    if says(all, command, VERB, b"write") & says(all, command, LISTING, b"-") {
         console::tell(supplier::write(image, key));
         return;
     }
     no_command();
 }
 
-fn answer_key(image: &[u8], command: u16) {
-    match key_word(command) {
-        Said::Key(which) => answer(image, supplier::key_of(image, which), command),
+fn answer_key(rt: &HostRuntime, all: &[String], image: &[u8], command: u16) {
+    match key_word(all, command) {
+        Said::Key(which) => answer(rt, all, image, supplier::key_of(image, which), command),
         Said::Nothing => no_command(),
     }
 }
 
 // Runs a command on a hive of at most 65,536 bytes.
-fn run(command: u16) {
+fn run(rt: &HostRuntime, all: &[String], command: u16) {
     let mut image = [0u8; 65536];
-    let hive = read_file(command, HIVE, &mut image);
+    let hive = read_file(rt, argument(all, command, HIVE), &mut image);
     let n = hive.bytes;
     if hive.unread {
         console::unread();
@@ -183,28 +184,33 @@ fn run(command: u16) {
         console::tell(console::refused(words::TOO_LARGE));
         return;
     }
-    answer_key(&image[..n], command);
+    answer_key(rt, all, &image[..n], command);
 }
 
-fn run_each(commands: u16) {
+fn run_each(rt: &HostRuntime, all: &[String], commands: u16) {
     let mut i: u16 = 0;
     while i < commands {
-        run(i);
+        run(rt, all, i);
         i += 1;
     }
 }
 
 // Runs all commands, up to 65,535 of them. The first argument is the program's own name.
-pub fn run_all() {
-    let arguments = os::arg_count();
+pub fn run_all(rt: &HostRuntime) -> Result<()> {
+    let mut all = Vec::new(rt.alloc());
+    for word in env::args(rt)? {
+        all.push(word)?;
+    }
+    let arguments = all.len();
     if arguments % 4 != 1 {
         no_command();
-        return;
+        return Ok(());
     }
     let commands = arguments / 4;
     if 65535 < commands {
         no_command();
-        return;
+        return Ok(());
     }
-    run_each(commands as u16);
+    run_each(rt, all.as_slice(), commands as u16);
+    Ok(())
 }

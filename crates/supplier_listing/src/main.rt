@@ -6,6 +6,6 @@ mod commands;
 mod console;
 mod supplier;
 
-fn main() {
-    commands::run_all();
+fn main(rt: HostRuntime) -> std::io::Result<()> {
+    commands::run_all(&rt)
 }

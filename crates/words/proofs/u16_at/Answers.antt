@@ -2,7 +2,6 @@ use mathlib.Core.Path.{sym, ◌∙◌}
 use Prim.Native.Nat.{◌+◌}
 use native.Mathlib.Omega.{arith}
 use Rattle.words.proofs.Little.{little_2, byte_past}
-use Rattle.words.specs.Words.{byte_at}
 use Rattle.words.proofs.u16_at.Goals as goal
 
 pub returns-then-at-starts : goal.returns-then-at-starts

@@ -1,4 +1,3 @@
-use borrow.Author.Tests.{not-true, not-false}
 use mathlib.Core.Path.{sym, ◌∙◌}
 use Rattle.writing.proofs.Writing.{putting_start, putting_step, putting_done, put-nothing}
 use Rattle.writing.proofs.put_bytes.Goals as goal

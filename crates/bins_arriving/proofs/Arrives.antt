@@ -1,5 +1,5 @@
 -- What holds of any row of parts. Assumes nothing.
-use Prim.Native.Nat.{ℕ, zero, suc, ◌+◌, ◌-◌, ◌*◌, ◌%◌, ◌^◌, ◌≤◌, ◌<◌}
+use Prim.Native.Nat.{ℕ, ◌+◌, ◌-◌, ◌^◌, ◌≤◌, ◌<◌}
 use mathlib.Core.Path.{◌≡◌, refl, sym, ap, subst, ◌∙◌}
 use mathlib.Core.Logic.{◌⊎◌, inl, inr}
 use mathlib.Core.List.{List, [], ◌∷◌, ◌++◌, append_assoc, append-nil}
@@ -9,10 +9,10 @@ use lib.ListN.{length, take, drop, replicate, length-append, take-append-drop, l
 use lib.Seq.{take-append_seam, take_all, take-take}
 use lib.Dec.{ltb, leb, eqb}
 use borrow.Author.Tests.{ltb-true, ltb-false, leb-true, leb-false, eqb-true, eqb-false}
-use Rattle.words.specs.Refusals.{CUT_SHORT, BAD_BIN, BAD_CELL, PAST_END}
+use Rattle.words.specs.Refusals.{CUT_SHORT, BAD_BIN, PAST_END}
 use Rattle.words.specs.Paper.{Told, Paper, success, refused, by, told}
 use Rattle.words.specs.declared.Refusal.{Refusal}
-use Rattle.words.proofs.Papers.{success-refused, refused-success, same-success, same-told, same-refusal}
+use Rattle.words.proofs.Papers.{success-refused, refused-success, same-told, same-refusal}
 use Rattle.hive_bin.specs.declared.BinTotals.{BinTotals}
 use Rattle.hive_bin.specs.declared.BinsAnswer.{BinsAnswer}
 use Rattle.hive_bin.specs.declared.BinsAnswer.TheVariants.{Totals, Refused}
@@ -24,12 +24,12 @@ use Rattle.hive_bin.proofs.Pieces.{bins_fill}
 use Rattle.hive_bin.proofs.Image.{inside}
 use Rattle.hive_bin.proofs.Papers.{bins_injective}
 use Rattle.bins_arriving.specs.declared.BinsSoFar.{BinsSoFar}
-use Rattle.bins_arriving.specs.Arriving.{begun, on, refuse, too_short, settle, eaten, eat, feed, part_taken, ended}
+use Rattle.bins_arriving.specs.Arriving.{begun, refuse, too_short, settle, eaten, eat, feed, part_taken, ended}
 use Rattle.bins_arriving.specs.Arrival.{joined, After, Arrived, Ends, Complete, Has, due_at, refusal, Holds}
 use Rattle.bins_arriving.proofs.Bytes.{is_short, is_open, eat_kept, part_kept, part_past, part_fed, end_kept, end_early, end-full}
 use Rattle.bins_arriving.proofs.Feeding.{eat-counts, feed-append, feed_kept}
 use Rattle.bins_arriving.proofs.Left.{left, left_nothing}
-use Rattle.bins_arriving.proofs.Reached.{Open, Closed, Settled, Reached, reaches}
+use Rattle.bins_arriving.proofs.Reached.{Closed, Settled, Reached, reaches}
 
 -- ---- settling twice is settling once, so that no byte leaves a rest too short for a header unjudged
 

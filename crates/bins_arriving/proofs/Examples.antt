@@ -1,7 +1,7 @@
 -- Worked examples of the definitions, which antt computes: the bins of document 01's listing example, in parts.
 use Prim.Native.Nat.{ℕ, ◌-◌}
 use mathlib.Core.Path.{◌≡◌, refl}
-use mathlib.Core.List.{List, [], ◌∷◌, ◌++◌}
+use mathlib.Core.List.{List, [], ◌∷◌}
 use lib.ListN.{replicate, take, drop}
 use Rattle.words.specs.Words.{little, signed}
 use Rattle.words.specs.Refusals.{CUT_SHORT, BAD_BIN, BAD_CELL, PAST_END}

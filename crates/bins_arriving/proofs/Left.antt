@@ -11,7 +11,7 @@ use Rattle.words.specs.Words.{word32}
 use Rattle.words.specs.Paper.{Paper, success, refused, by}
 use Rattle.hive_bin.specs.declared.BinTotals.{BinTotals}
 use Rattle.hive_bin.specs.Walk.{Walk, row, size_word, good_cell, cell_row, good_bin, bin_row, bins_in}
-use Rattle.hive_bin.specs.Totals.{sum_over, answer_of, no_totals, one_bin, cell_totals, together}
+use Rattle.hive_bin.specs.Totals.{sum_over, answer_of, no_totals, one_bin, cell_totals}
 use Rattle.hive_bin.proofs.Rows.{row-end, row-bad, row_more}
 use Rattle.hive_bin.proofs.Sums.{plus, plus_plus, none_plus, answer_join}
 use Rattle.hive_bin.proofs.Pieces.{cell_facts, cells_sound, cell_adds, bin_facts, bins_sound, bin_adds}

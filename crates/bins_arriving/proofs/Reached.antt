@@ -10,24 +10,24 @@ use lib.ListN.{length, get_or, set, take, length-set}
 use lib.Seq.{take-suc, get_or-set_same, get_or-set_other}
 use lib.Dec.{ltb, leb, eqb}
 use lib.IntN.{ℤ, nat_abs}
-use borrow.Author.Tests.{ltb-true, ltb-false, leb-true, leb-false, eqb-true, eqb-false, lt-ltb, le-ltb, eq-eqb, ne_eqb}
+use borrow.Author.Tests.{ltb-true, ltb-false, leb-true, leb-false, eqb-true, eqb-false, lt-ltb, le-ltb, eq-eqb}
 use Rattle.words.specs.Refusals.{BAD_BIN, BAD_CELL}
 use Rattle.words.specs.Words.{little, word32, signed}
-use Rattle.words.specs.Paper.{Paper, success, refused, by, told}
+use Rattle.words.specs.Paper.{success, refused, by}
 use Rattle.words.specs.declared.Refusal.{Refusal}
 use Rattle.hive_bin.specs.declared.BinTotals.{BinTotals}
 use Rattle.hive_bin.specs.declared.BinsAnswer.{BinsAnswer}
 use Rattle.hive_bin.specs.declared.BinsAnswer.TheVariants.{Totals, Refused}
 use Rattle.hive_bin.specs.Walk.{size_word, good_cell, good_header, good_bin, bins_in}
-use Rattle.hive_bin.specs.Totals.{answer_of, no_totals, one_bin, cell_totals, together}
-use Rattle.hive_bin.proofs.Sums.{plus, plus_plus, none_plus, plus_none, later, totals_eq, Fills}
+use Rattle.hive_bin.specs.Totals.{answer_of, one_bin, cell_totals, together}
+use Rattle.hive_bin.proofs.Sums.{plus, plus_plus, none_plus, totals_eq}
 use Rattle.hive_bin.proofs.Pieces.{cell_facts, bin_facts, cell_fills}
 use Rattle.bins_arriving.specs.declared.BinsSoFar.{BinsSoFar}
-use Rattle.bins_arriving.specs.Arriving.{up_to, added, begun, on, await, refuse, too_short, settle, needed, put, judge_bin, judge_cell, header, eaten, eat, feed}
+use Rattle.bins_arriving.specs.Arriving.{added, begun, on, await, refuse, too_short, settle, put, judge_bin, judge_cell, header, eaten, eat, feed}
 use Rattle.bins_arriving.specs.Arrival.{due_at}
 use Rattle.bins_arriving.proofs.Bytes.{sum_fits, on_the_way, is_open, eat_kept}
 use Rattle.bins_arriving.proofs.Feeding.{feed-append}
-use Rattle.bins_arriving.proofs.Left.{left, left_cell, left_no_cell, left_bin, left_no_bin, left_nothing, left_all}
+use Rattle.bins_arriving.proofs.Left.{left, left_cell, left_no_cell, left_bin, left_no_bin, left_all}
 
 -- words of equal bytes
 little_is : (n : ℕ) (a b : List ℕ) (i k : ℕ) → ((j : ℕ) → j < n → get_or a (i + j) 0 ≡ get_or b (k + j) 0) → little n a i ≡ little n b k

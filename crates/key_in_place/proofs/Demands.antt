@@ -1,12 +1,11 @@
 -- What specs/Demands.antt says, of every image and record. Assumes nothing.
-use mathlib.Core.Path.{◌≡◌, refl, ap, sym, subst, ◌∙◌}
+use mathlib.Core.Path.{◌≡◌, refl, ap, sym, ◌∙◌}
 use mathlib.Core.Logic.{◌↔◌}
 use mathlib.Core.List.{List}
 use Prim.Native.Nat.{ℕ}
 use Rattle.words.specs.Refusals.{OTHER_PLACE}
-use Rattle.words.specs.Paper.{Paper, success, refused, by}
+use Rattle.words.specs.Paper.{Paper, success, by}
 use Rattle.words.specs.Buffers.{buffer_after, Answered}
-use Rattle.words.proofs.Papers.{same-success}
 use Rattle.words.proofs.Every.{Every}
 use Rattle.words.proofs.Buffers.{untouched}
 use Rattle.sub_key_walk.proofs.Demand.{demand_3}
@@ -15,7 +14,7 @@ use Rattle.cell_key_node.specs.declared.KeyNode.{KeyNode}
 use Rattle.cell_key_node.specs.declared.KeyAnswer.{KeyAnswer}
 use Rattle.cell_key_node.specs.declared.KeyAnswer.TheVariants.{Key}
 use Rattle.cell_key_node.proofs.Keys.{key_stands}
-use Rattle.key_in_place.specs.Place.{ReadsAs, is_in_place, behind}
+use Rattle.key_in_place.specs.Place.{ReadsAs, behind}
 use Rattle.key_in_place.specs.Demands.{Passes, Demands, Refuses, Untouched, Refused21}
 use Rattle.key_in_place.proofs.Place.{in_place}
 use Rattle.key_in_place.proofs.Behind.{here, elsewhere, not_here}

@@ -1,5 +1,5 @@
 -- A key record reads the same where the 80 bytes of its fixed part are the same and its cell lies in the image. Assumes nothing.
-use mathlib.Core.Path.{◌≡◌, refl, ap, sym, subst, ◌∙◌}
+use mathlib.Core.Path.{◌≡◌, ap, sym, ◌∙◌}
 use mathlib.Core.List.{List}
 use Prim.Native.Nat.{ℕ, ◌+◌, ◌≤◌, ◌<◌}
 use native.Mathlib.Omega.{arith}
@@ -7,7 +7,7 @@ use lib.IntN.{nat_abs, pos}
 use lib.Signed.{lt_z}
 use lib.ListN.{length, take, drop, length-drop}
 use lib.Seq.{get_or-take}
-use Rattle.words.specs.Words.{byte_at, little, word16, word32, signed}
+use Rattle.words.specs.Words.{byte_at, little, word16, signed}
 use Rattle.words.specs.Paper.{success}
 use Rattle.words.proofs.Little.{little-same}
 use Rattle.words.proofs.Papers.{checked_good}

@@ -3,7 +3,6 @@
 use Rattle.std.specs.Prelude.{ℕ, ◌+◌, ◌≤◌, ◌≡◌, ◌↔◌, List, Bool, true, nat_abs, length, take, drop}
 use Rattle.words.specs.Refusals.{OTHER_PLACE}
 use Rattle.words.specs.Paper.{Paper, success, refused, by}
-use Rattle.words.specs.Buffers.{Answered}
 use Rattle.sub_key_walk.specs.declared.WalkAnswer.{WalkAnswer}
 use Rattle.sub_key_walk.specs.Answers.{COUNT_LIMIT, BUDGET_LIMIT, measured, walk_paper, WalkAnswered}
 use Rattle.sub_key_walk.specs.Strict.{strict_measured, StrictAnswered}

@@ -1,6 +1,6 @@
 -- Document 02, order 11, in examples: one image, and copies of it in which a byte of the key record is another. Proved in
 -- proofs/Examples.antt.
-use Rattle.std.specs.Prelude.{ℕ, ◌^◌, ◌+◌, ◌≡◌, List, [], ◌∷◌, ◌++◌, Bool, true, false, replicate, drop, set}
+use Rattle.std.specs.Prelude.{ℕ, ◌^◌, ◌+◌, ◌≡◌, List, [], ◌∷◌, ◌++◌, true, false, replicate, drop, set}
 use Rattle.words.specs.Refusals.{BAD_SIGN, BAD_BUDGET, NOT_FOUND, OTHER_PLACE}
 use Rattle.words.specs.Paper.{success, refused, by}
 use Rattle.sub_key_walk.specs.Judge.{counts}

@@ -1,6 +1,6 @@
 -- Document 02, order 11: "Refusals: new, 21 OTHER PLACE, before all others, where the bytes at that position do not read as this same
 -- record."
-use Rattle.std.specs.Prelude.{ℕ, ◌≡◌, List, Bool, true, false, cond, not, ◌&&◌, eqb, ℤ, pos, negsuc}
+use Rattle.std.specs.Prelude.{ℕ, ◌≡◌, List, Bool, false, cond, not, ◌&&◌, eqb, ℤ, pos, negsuc}
 use Rattle.words.specs.Refusals.{OTHER_PLACE}
 use Rattle.words.specs.Paper.{Paper, success, refused, by}
 use Rattle.cell_key_node.specs.Key.{key_at}

@@ -5,7 +5,7 @@ use Rattle.words.specs.Paper.{Paper, success, refused, by}
 use Rattle.words.proofs.Every.{Every, every_success, every_refused}
 use Rattle.sub_key_walk.specs.declared.Counts.{Counts}
 use Rattle.cell_key_node.specs.declared.KeyNode.{KeyNode}
-use Rattle.key_in_place.specs.Place.{ReadsAs, is_in_place}
+use Rattle.key_in_place.specs.Place.{ReadsAs}
 use Rattle.key_in_place.proofs.Place.{in_place}
 use Rattle.key_in_place.proofs.Behind.{not_here}
 use Rattle.key_in_place.proofs.Never.{Other, measured_never}

@@ -3,16 +3,15 @@ use Prim.{Unit, tt}
 use mathlib.Core.Path.{◌≡◌, refl, ap, sym, subst, ◌∙◌}
 use mathlib.Core.Logic.{◌⊎◌, inl, inr}
 use mathlib.Core.List.{List}
-use mathlib.Core.Bool.{Bool, true, false, cond, not}
-use Prim.Native.Nat.{ℕ, ◌+◌, ◌≤◌, ◌<◌}
+use mathlib.Core.Bool.{Bool, true, false}
+use Prim.Native.Nat.{ℕ, ◌+◌, ◌≤◌}
 use native.Mathlib.Omega.{arith}
-use lib.Dec.{ltb, leb, eqb}
+use lib.Dec.{ltb}
 use lib.ListN.{length}
 use borrow.Author.Tests.{ltb-false, le-ltb, leb-true, le-leb, eqb-true, eq-eqb}
-use Rattle.words.specs.Refusals.{BAD_SIZE, NOT_PERMITTED}
-use Rattle.words.specs.Paper.{Told, Paper, success, refused, by, told, and_then}
+use Rattle.words.specs.Paper.{Told, Paper, success, refused, told, and_then}
 use Rattle.words.specs.declared.Refusal.{Refusal}
-use Rattle.words.proofs.Papers.{refused-success, success-refused, same-success, same-told}
+use Rattle.words.proofs.Papers.{refused-success, same-told}
 use Rattle.cell.specs.Cells.{magnitude_at, allocated_at, bytes_left}
 use Rattle.sub_key_list.specs.Lists.{LF, LH, LI, RI, Listed, kind_at, list_at, list_paper}
 use Rattle.sub_key_list.specs.Strict.{least_minor, permitted, ri_under_ri, barred, own_cell, list_bytes, strict_checks, strict_at}
@@ -20,7 +19,7 @@ use Rattle.sub_key_list.specs.Profiles.{Rule, Met, Added, OneList}
 use Rattle.sub_key_list.specs.declared.SubKeyList.{SubKeyList}
 use Rattle.sub_key_list.specs.declared.SubKeyList.TheVariants.{Refused}
 use Rattle.sub_key_list.proofs.Papers.{paper_injective}
-use Rattle.sub_key_list.proofs.Strict.{strict-refused, strict_read, list-header}
+use Rattle.sub_key_list.proofs.Strict.{strict-refused, strict_read}
 
 pub false_true : false ≡ true → ⊥
 false_true e = let z : ◌≡◌ {A = ℕ} 0 1 = cc in absurd (omega arith)

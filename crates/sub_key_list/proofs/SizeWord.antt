@@ -3,7 +3,6 @@ use mathlib.Core.Path.{◌≡◌, refl, ap, ◌∙◌}
 use mathlib.Core.List.{List}
 use Prim.Native.Nat.{ℕ, zero, suc, ◌+◌, ◌≤◌}
 use native.Mathlib.Omega.{arith}
-use lib.ListN.{length}
 use Rattle.words.specs.Paper.{Paper, success, refused}
 use Rattle.words.proofs.Little.{little-same}
 use Rattle.sub_key_list.specs.Lists.{Listed, leaf, index, list_at, SameBehind}

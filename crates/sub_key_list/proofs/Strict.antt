@@ -3,17 +3,16 @@ use Prim.{tt}
 use mathlib.Core.Path.{◌≡◌, refl, ap, sym, ◌∙◌}
 use mathlib.Core.List.{List}
 use mathlib.Core.Bool.{Bool, true, false, cond, not}
-use Prim.Native.Nat.{ℕ, ◌+◌, ◌-◌, ◌*◌, ◌≤◌, ◌<◌}
+use Prim.Native.Nat.{ℕ, ◌+◌, ◌-◌, ◌*◌, ◌≤◌}
 use native.Mathlib.Decide.{dec_le}
 use native.Mathlib.Omega.{arith}
 use lib.Dec.{ltb}
 use lib.ListN.{length}
 use borrow.Author.Tests.{lt-ltb, le-ltb, ltb-false}
 use Rattle.words.specs.Refusals.{BAD_SIZE, NOT_PERMITTED}
-use Rattle.words.specs.Paper.{Told, Paper, success, refused, by, and_then}
+use Rattle.words.specs.Paper.{Told, success, refused, by, and_then}
 use Rattle.words.proofs.Papers.{refused-success}
 use Rattle.cell.specs.Cells.{magnitude_at, allocated_at, bytes_left, size_at, cell_at, cell_paper}
-use Rattle.cell.specs.Exactly.{Reads}
 use Rattle.cell.specs.declared.CellSize.{CellSize}
 use Rattle.cell.specs.declared.CellAnswer.{CellAnswer}
 use Rattle.cell.specs.declared.CellAnswer.TheVariants.{Held, TooSmall}

@@ -1,11 +1,11 @@
 -- Document 02, order 9, of one list: what is proved of the strict profile (proofs/Profiles.antt).
 use Rattle.std.specs.Prelude.{ℕ, ◌+◌, ◌≤◌, ◌<◌, ◌≡◌, ◌↔◌, ◌⊎◌, List, Bool, true, length}
 use Rattle.words.specs.Refusals.{BAD_SIZE, NOT_PERMITTED}
-use Rattle.words.specs.Paper.{Told, Paper, success, refused, by, told}
+use Rattle.words.specs.Paper.{Told, success, by, told}
 use Rattle.words.specs.declared.Refusal.{Refusal}
 use Rattle.cell.specs.Cells.{magnitude_at, allocated_at}
-use Rattle.sub_key_list.specs.Lists.{LF, LH, LI, RI, Listed, kind_at, list_at, list_paper}
-use Rattle.sub_key_list.specs.Strict.{least_minor, permitted, list_bytes, strict_at}
+use Rattle.sub_key_list.specs.Lists.{LF, LH, LI, RI, Listed, kind_at, list_paper}
+use Rattle.sub_key_list.specs.Strict.{least_minor, permitted, list_bytes}
 use Rattle.sub_key_list.specs.declared.SubKeyList.{SubKeyList}
 use Rattle.sub_key_list.specs.declared.SubKeyList.TheVariants.{Refused}
 

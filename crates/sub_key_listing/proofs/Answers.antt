@@ -25,7 +25,6 @@ use Rattle.key_in_place.specs.Answers.{measured_of}
 use Rattle.key_in_place.proofs.Behind.{behind-success}
 use Rattle.sub_key_listing.specs.Listing.{same, wellformed}
 use Rattle.sub_key_listing.specs.Answers.{offsets_of, right_listing, compared, checked_of, written_of, full_listing, write_paper, writing_of, WriteAnswered}
-use Rattle.sub_key_listing.specs.declared.CheckAnswer.TheVariants.{Refused}
 use Rattle.sub_key_listing.specs.declared.Written.{Written}
 use Rattle.sub_key_listing.specs.declared.WriteAnswer.{WriteAnswer}
 use Rattle.sub_key_listing.specs.declared.WriteAnswer.TheVariants as write

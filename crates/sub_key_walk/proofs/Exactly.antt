@@ -2,7 +2,7 @@
 -- (`counts_exactly`, `sub_keys_exactly`). Assumes nothing.
 use Prim.{tt}
 use mathlib.Core.Path.{◌≡◌, refl, ap, sym, subst, ◌∙◌}
-use mathlib.Core.List.{List, [], ◌∷◌, ◌++◌}
+use mathlib.Core.List.{List, ◌∷◌, ◌++◌}
 use mathlib.Core.Bool.{Bool, true, false}
 use Prim.Native.Nat.{ℕ, zero, suc, ◌+◌}
 use native.Mathlib.Omega.{arith}
@@ -22,7 +22,7 @@ use Rattle.sub_key_list.proofs.Profiles.{false_true, accepted, accept}
 use Rattle.sub_key_walk.specs.Trace.{Event, index, each, below, trace, ordinary, LEVELS, walk_from}
 use Rattle.sub_key_walk.specs.Judge.{judge}
 use Rattle.sub_key_walk.specs.Answers.{BUDGET_LIMIT, COUNT_LIMIT, none, from_record, measured, full_of, walk_paper, WalkAnswered}
-use Rattle.sub_key_walk.specs.Free.{All, Succeeds}
+use Rattle.sub_key_walk.specs.Free.{All}
 use Rattle.sub_key_walk.specs.Strict.{strict, strict_from, strict_measured, StrictAnswered}
 use Rattle.sub_key_walk.specs.Profiles.{Permits, IsLeaf, Flat, Permitted, Exactly}
 use Rattle.sub_key_walk.specs.declared.Counts.{Counts}

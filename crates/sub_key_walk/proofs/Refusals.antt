@@ -1,5 +1,5 @@
 -- What holds of every refusal of a walk: of each list's own, and of those of the walk. Assumes nothing.
-use mathlib.Core.Path.{◌≡◌, refl}
+use mathlib.Core.Path.{refl}
 use mathlib.Core.List.{List, [], ◌∷◌}
 use Prim.Native.Nat.{ℕ}
 use lib.Dec.{ltb, eqb}

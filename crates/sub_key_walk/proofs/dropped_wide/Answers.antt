@@ -1,6 +1,5 @@
 use mathlib.Core.Path.{◌∙◌}
 use native.Mathlib.Omega.{arith}
-use borrow.Author.Tests.{not-false}
 use Rattle.sub_key_walk.proofs.Pieces.{leaving_start, piece_there, leaving_next}
 use borrow.Author.Rules.{rules}
 use Rattle.sub_key_walk.proofs.dropped_wide.Goals as goal

@@ -1,5 +1,4 @@
 use mathlib.Core.Path.{ap, sym, ◌∙◌}
-use borrow.Author.Tests.{not-true, not-false}
 use Rattle.value_data.proofs.Big.{head_cut, head_sign, head_small, head_number, head_whole}
 use Rattle.words.specs.Paper.{refused, told}
 use Rattle.words.specs.declared.Refusal.{Refusal}

@@ -1,5 +1,5 @@
 // Listings of a key's subkeys: one checked, written, or written and then checked, by the key record at a position, and the answer written out.
-use super::{bytes, lines};
+use super::{bytes, lines, stream};
 use cell_key_node::{KeyAnswer, KeyNode};
 use replay_case::Case;
 use sub_key_listing::{CheckAnswer, WriteAnswer};
@@ -102,7 +102,7 @@ fn in_room(tag: u8, case: Case, image: &[u8], key: KeyNode, room: &mut [u8]) {
 }
 
 fn with_room(tag: u8, case: Case, image: &[u8], key: KeyNode) {
-    let mut room = [0u8; 524288];
+    let mut room = stream::bytes_space::<524288>();
     in_room(tag, case, image, key, &mut room);
 }
 

@@ -3,25 +3,15 @@
 // answers.rt is a copy of replay_paper's: that program answers these cases too, and here they have a stored output of their own.
 #![tactic(auto)]
 
-ghost use Rattle.std.specs.Prelude.{◌≡◌, length};
-
 mod answers;
 mod bytes;
 mod lines;
 mod listings;
 mod stream;
 
-// Zeros for the image and the name. At a length that is a parameter the check need not count them; the `ensures` is what
-// lending the array as a slice needs.
-fn bytes_space<const N: usize>() -> [u8; N]
-    ensures { N ≡ length result }
-{
-    [0; N]
-}
-
 fn main() {
-    let mut image = bytes_space::<524288>();
-    let mut name = bytes_space::<65536>();
+    let mut image = stream::bytes_space::<524288>();
+    let mut name = stream::bytes_space::<65536>();
     let mut out = [0u32; 1];
     stream::replay(&mut image, &mut name, &mut out);
 }

@@ -1,6 +1,6 @@
 // A subkey list written as the other kind, and there and back: each step called with what a case gives it, and its answer written out.
 use super::walks::joined;
-use super::{bytes, lines};
+use super::{bytes, lines, stream};
 use list_conversion::ConversionAnswer;
 use replay_case::Case;
 
@@ -57,7 +57,7 @@ fn one_step(as_lh: bool, list: &[u8], position: usize, image: &[u8], case: Case,
 }
 
 fn one_way(as_lh: bool, list: &[u8], position: usize, image: &[u8], case: Case) {
-    let mut room = [0u8; 524288];
+    let mut room = stream::bytes_space::<524288>();
     one_step(as_lh, list, position, image, case, &mut room);
 }
 
@@ -78,7 +78,7 @@ fn two_steps(as_lh: bool, position: usize, image: &[u8], case: Case, room: &mut 
 }
 
 fn there_and_back(as_lh: bool, position: usize, image: &[u8], case: Case) {
-    let mut room = [0u8; 524288];
+    let mut room = stream::bytes_space::<524288>();
     two_steps(as_lh, position, image, case, &mut room);
 }
 

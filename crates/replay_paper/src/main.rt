@@ -2,8 +2,6 @@
 // have the answers of document 01 as compare/paper.py reads it.
 #![tactic(auto)]
 
-ghost use Rattle.std.specs.Prelude.{◌≡◌, length};
-
 mod answers;
 mod buffers;
 mod bytes;
@@ -18,23 +16,9 @@ mod totals;
 mod values;
 mod walks;
 
-// Zeros for the image and the name, and for the places. At a length that is a parameter the check need not count them; the `ensures` is what
-// lending the array as a slice needs.
-fn bytes_space<const N: usize>() -> [u8; N]
-    ensures { N ≡ length result }
-{
-    [0; N]
-}
-
-fn places_space<const N: usize>() -> [u32; N]
-    ensures { N ≡ length result }
-{
-    [0; N]
-}
-
 fn main() {
-    let mut image = bytes_space::<524288>();
-    let mut name = bytes_space::<65536>();
-    let mut out = places_space::<262144>();
+    let mut image = stream::bytes_space::<524288>();
+    let mut name = stream::bytes_space::<65536>();
+    let mut out = stream::places_space::<262144>();
     stream::replay(&mut image, &mut name, &mut out);
 }

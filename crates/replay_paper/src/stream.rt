@@ -1,4 +1,6 @@
 // The stream of cases (compare/README.md): each case is read, and answered by the program's own `answers`.
+ghost use Rattle.std.specs.Prelude.{◌≡◌, length};
+
 use super::{answers, lines};
 use replay_case::Case;
 
@@ -6,6 +8,20 @@ use replay_case::Case;
 const PATCH: u8 = 100;
 
 const LENGTH: u8 = 101;
+
+// Zeros: bytes for an image, a name or a room, and places. At a length that is a parameter the check need not count them; the `ensures` is
+// what lending the array as a slice needs.
+pub fn bytes_space<const N: usize>() -> [u8; N]
+    ensures { N ≡ length result }
+{
+    [0; N]
+}
+
+pub fn places_space<const N: usize>() -> [u32; N]
+    ensures { N ≡ length result }
+{
+    [0; N]
+}
 
 // What a case leaves for the next one, or the end of the run.
 #[derive(Clone, Copy)]

@@ -34,23 +34,41 @@ readable() {
 # A file's name in a sentence.
 named() { if [ "$1" = - ]; then printf 'standard input'; else printf '%s' "$1"; fi; }
 
-# The sum of all that the program is made from: toolchain, crates.txt, and each file of its crate and of what that stands on.
-sum_of_sources() (
-    cd "$here" || exit 1
-    crates=$(awk -v program="$crate" '
+# The lines of crates.txt for the program's crate and what that stands on.
+needed() {
+    awk -v program="$crate" '
         { sub(/#.*/, ""); i = index($0, ":"); if (i) { n = substr($0, 1, i - 1); gsub(/[ \t]/, "", n); on[n] = substr($0, i + 1) } }
         function visit(n, a, k, m) {
             if (!(n in on) || seen[n]++) return
-            print n
+            print n ":" on[n]
             m = split(on[n], a, " ")
             for (k = 1; k <= m; k++) visit(a[k])
         }
-        END { visit(program) }' crates.txt)
+        END { visit(program) }' "$here/crates.txt"
+}
+
+# The sum of all that the program is made from: toolchain, crates.txt, and each file of its crate and of what that stands on, but for what
+# the toolchain itself puts there.
+sum_of_sources() (
+    cd "$here" || exit 1
     {
         printf '%s\n' "$kit" "$machine"
         cat crates.txt
-        for each in $crates; do find -L "crates/$each" -type f -exec sha256sum {} +; done | sort
+        needed | cut -d: -f 1 | while read -r each; do find -L "crates/$each" -name out -prune -o -type f -exec sha256sum {} +; done | sort
     } | sha256sum | cut -c 1-32
+)
+
+# The sources once more, in target/list/build, where the toolchain proves and builds them: it writes beside them. What it keeps from call to
+# call stays.
+copy_sources() (
+    mkdir -p "$work/build/crates" && needed >"$work/build/crates.txt" || exit 1
+    needed | cut -d: -f 1 | while read -r each; do
+        to=$work/build/crates/$each
+        mkdir -p "$to" && rm -rf "$to/src" "$to/specs" "$to/proofs" || exit 1
+        for part in src specs proofs; do
+            if [ -d "$here/crates/$each/$part" ]; then cp -R "$here/crates/$each/$part" "$to/" || exit 1; fi
+        done
+    done
 )
 
 unwritable() {
@@ -104,12 +122,14 @@ prove() {
     (: >"$work/log") 2>/dev/null || unwritable
     (echo >"$work/log") 2>/dev/null || stop 2 "nothing can be written to $here/target. Is the disk full?"
     say "proving and building $what, which takes a minute or two the first time."
-    (cd "$here" && rt check "$crate") </dev/null >"$work/log" 2>&1
+    copy_sources || stop 2 "the sources cannot be copied to $here/target. Is the disk full?"
+    # Built, the program runs once, on no input.
+    (cd "$work/build/crates/$crate" && rt run) </dev/null >"$work/log" 2>&1
     status=$?
     if [ "$status" -ne 0 ]; then
         verdict=2 why="the toolchain failed with status $status."
         case $status in
-        1 | 3) if grep -q '^rt: FAILED' "$work/log"; then verdict=1 why="$what is not proved."; fi ;;
+        1 | 3) if grep -q '^logic=not-proved' "$work/log"; then verdict=1 why="$what is not proved."; fi ;;
         esac
         say "$why The last lines of target/list/log:"
         tail -n 5 "$work/log" >&2
@@ -117,7 +137,7 @@ prove() {
     fi
     [ "$(sum_of_sources)" = "$sum" ] || stop 2 "the sources changed while they were proved. Run ./$me again."
     new=$work/new.$$
-    if ! { cp "$here/target/bin/$crate" "$new" && chmod 755 "$new" && rm -f "$work/$crate"-* && mv "$new" "$program"; }; then
+    if ! { cp "$work/build/crates/$crate/out/$crate" "$new" && chmod 755 "$new" && rm -f "$work/$crate"-* && mv "$new" "$program"; }; then
         stop 2 "the program cannot be put into target/list. Is the disk full?"
     fi
 }
@@ -150,18 +170,15 @@ build() {
     trap 'exit 143' TERM
     if [ ! -r "$program" ]; then prove; fi
     drop_lock
-    tools=$(dirname "$(dirname "$guide")")/on/$machine/toolchain
+    tools=$(dirname "$guide")/toolchain
     loader=$tools/lib/ld-linux-x86-64.so.2
-    if [ "$machine" != x86_64 ] && [ ! -x "$tools/bin/qemu-x86_64" ]; then
-        stop 2 "the program is for x86-64, and the toolchain's emulator for this machine is not there."
-    fi
+    [ "$machine" = x86_64 ] || stop 2 "the program is for x86-64, and this machine is another."
 }
 
 # Runs the program with these arguments.
 run() {
     set -- "$program" "$@"
     if [ -f "$loader" ]; then set -- "$loader" --library-path "$tools/lib" "$@"; fi
-    if [ "$machine" != x86_64 ]; then set -- "$tools/bin/qemu-x86_64" "$@"; fi
     "$@"
 }
 

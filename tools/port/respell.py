@@ -7,7 +7,7 @@ The table is made from the names that specs/ and the law files of proofs/ declar
   aCamelName       a_camel_name
   NO-ROOM          NO_ROOM          the name of a constant of the code, which keeps its spelling
   byte-past        byte_past        a dash between plain words
-  success-refused  stays            a dash between two names that specs/ declares
+  success-refused  stays            a lemma's dash between two names that specs/ declares
 A name that some file takes from the library is left. Words turn in .antt files, in clauses of .rt files, in must-fail edits and in the code spans of pages;
 functions, strings, inputs and outputs keep their names. It stops where two names of one file would fall together.
 The turning itself is done by the kit's script for names, found through `rt doc`.
@@ -69,7 +69,7 @@ def snake(name):
 
 
 def table():
-    declared, meant = set(), set(LIBRARY)
+    declared, meant, fields = set(), set(LIBRARY), set()
     own = [["Rattle", c] for c in os.listdir("crates")]
     for path in files("crates", ".antt"):
         if not is_law(path):
@@ -79,8 +79,9 @@ def table():
         names = set(SIGNED.findall(text)) | types
         declared |= names
         if "/specs/" in path:
-            fields = set(re.findall(r"^  pub (\S+) :", text, re.M))
-            meant |= {snake(n) for n in names - fields}
+            inside = set(re.findall(r"^ +pub (\S+) :", text, re.M))
+            meant |= {snake(n) for n in names - inside}
+            fields |= names
     kits = set()
     for path in [*files("crates", ".antt"), *files("crates", ".rt")]:
         for module, names in re.findall(r"use ([\w.+-]+)\.\{([^}]*)\}", read(path)):
@@ -97,7 +98,7 @@ def table():
             new = snake(name)
         elif "-" in name and re.fullmatch(r"[\w'-]+", name):
             parts = [snake(p) for p in name.split("-")]
-            new = "-".join(parts) if all(p in meant for p in parts) else "_".join(parts)
+            new = "-".join(parts) if all(p in meant for p in parts) and name not in fields else "_".join(parts)
         else:
             continue
         if new == name:

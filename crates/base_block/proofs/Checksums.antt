@@ -9,10 +9,10 @@ use borrow.Author.Tests.{eqb-false}
 use Rattle.words.proofs.Little.{Bytes, little_lt}
 use Rattle.base_block.specs.Checksum.{xor_of, mended, sum_of}
 use Rattle.base_block.specs.Columns.{row_of}
-use Rattle.base_block.proofs.Columns.{row-bytes, words_by_columns}
+use Rattle.base_block.proofs.Columns.{row_bytes, words_by_columns}
 
 xor_range : (s : List ℕ) → Bytes s → (n : ℕ) → xor_of s n < 2 ^ 32
-xor_range s b n = rw (words_by_columns s b n) (little_lt 4 (row_of s n) (row-bytes s b n) 0)
+xor_range s b n = rw (words_by_columns s b n) (little_lt 4 (row_of s n) (row_bytes s b n) 0)
 
 abbrev Between : ℕ → Type 0
 Between x = (1 ≤ x) × (x ≤ 0xFFFF_FFFE)

@@ -57,8 +57,8 @@ unfolding column_of
 column_lt s b c zero = omega arith
 column_lt s b c (suc n) = xor_lt 8 (column_of s c n) (byte_at s (4 * n + c)) (column_lt s b c n) (b (4 * n + c))
 
-pub row-bytes : (s : List ℕ) → Bytes s → (n : ℕ) → Bytes (row_of s n)
-row-bytes s b n c = go (dec_le 4 c)
+pub row_bytes : (s : List ℕ) → Bytes s → (n : ℕ) → Bytes (row_of s n)
+row_bytes s b n c = go (dec_le 4 c)
   where
     go : Dec (4 ≤ c) → byte_at (row_of s n) c < 256
     go (yes h) = rw (byte_past (row_of s n) c h) (omega arith)
@@ -70,7 +70,7 @@ unfolding xor_of column_of little
 words_by_columns s b zero = refl
 words_by_columns s b (suc n) =
     ap (λ (x : ℕ). bit_xor x (word32 s (4 * n))) (words_by_columns s b n)
-    ∙ xor_little 4 (row_of s n) s (row_of s (suc n)) (row-bytes s b n) b 0 (4 * n) 0
+    ∙ xor_little 4 (row_of s n) s (row_of s (suc n)) (row_bytes s b n) b 0 (4 * n) 0
     (λ c h. rw (zero-add c) (row_at s (suc n) c h ∙ sym (ap (λ (x : ℕ). bit_xor x (byte_at s (4 * n + c))) (row_at s n c h))))
 
 -- ---- and so of every answer

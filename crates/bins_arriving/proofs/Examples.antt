@@ -64,9 +64,9 @@ pub short_rest : answer 4127 (listing ∷ []) ≡ refused (by BAD_BIN 8192)
 unfolding ended part_taken feed eat header judge_bin judge_cell put settle too_short up_to good_header good_cell cell_totals negative allocated_one free_one allocated_size free_size little signed
 short_rest = refl
 
-pub short-bins : answer 31 ([] ∷ []) ≡ refused (by BAD_BIN 4096)
+pub short_bins : answer 31 ([] ∷ []) ≡ refused (by BAD_BIN 4096)
 unfolding ended part_taken feed eat header judge_bin judge_cell put settle too_short up_to good_header good_cell cell_totals negative allocated_one free_one allocated_size free_size little signed
-short-bins = refl
+short_bins = refl
 
 pub short_bins_unjudged : answer 31 [] ≡ refused (by CUT_SHORT 4096)
 unfolding ended part_taken feed eat header judge_bin judge_cell put settle too_short up_to good_header good_cell cell_totals negative allocated_one free_one allocated_size free_size little signed

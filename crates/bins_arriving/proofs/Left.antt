@@ -32,8 +32,8 @@ refused_plus n p a = refl
 module _ (c : List ℕ) where
   -- a cell, and what is left behind it; where none stands
   module _ (place over : ℕ) where
-    abbrev bins-behind : Paper BinTotals
-    bins-behind = answer_of (row (bin_row c) over (length c - over))
+    abbrev bins_behind : Paper BinTotals
+    bins_behind = answer_of (row (bin_row c) over (length c - over))
 
     pub left_cell : good_cell (size_word c place) (over - place) ≡ true
         → left c place over ≡ plus (success (cell_totals (size_word c place))) (left c (place + nat_abs (size_word c place)) over)
@@ -42,17 +42,17 @@ module _ (c : List ℕ) where
         let n = nat_abs (size_word c place) in
         let k = cell_facts (size_word c place) (over - place) g in
         let z : over - place - n ≡ over - (place + n) = omega arith in
-        ap (λ (w : Walk). plus (answer_of w) bins-behind) (row_more (cell_row c) (cells_sound c) place (over - place) g)
-        ∙ ap (λ (a : Paper BinTotals). plus a bins-behind) (answer_join _ _)
-        ∙ ap (λ (a : Paper BinTotals). plus (plus a (answer_of (row (cell_row c) (place + n) (over - place - n)))) bins-behind) (cell_adds c place)
+        ap (λ (w : Walk). plus (answer_of w) bins_behind) (row_more (cell_row c) (cells_sound c) place (over - place) g)
+        ∙ ap (λ (a : Paper BinTotals). plus a bins_behind) (answer_join _ _)
+        ∙ ap (λ (a : Paper BinTotals). plus (plus a (answer_of (row (cell_row c) (place + n) (over - place - n)))) bins_behind) (cell_adds c place)
         ∙ plus_assoc _ _ _
-        ∙ ap (λ (m : ℕ). plus (success (cell_totals (size_word c place))) (plus (answer_of (row (cell_row c) (place + n) m)) bins-behind)) z
+        ∙ ap (λ (m : ℕ). plus (success (cell_totals (size_word c place))) (plus (answer_of (row (cell_row c) (place + n) m)) bins_behind)) z
 
     pub left_no_cell : place < over → good_cell (size_word c place) (over - place) ≡ false → left c place over ≡ refused (by BAD_CELL place)
     unfolding left cell_row answer_of
     left_no_cell h g =
-        ap (λ (w : Walk). plus (answer_of w) bins-behind) (row-bad (cell_row c) (cells_sound c) place (over - place) (omega arith) g)
-        ∙ refused_plus BAD_CELL place bins-behind
+        ap (λ (w : Walk). plus (answer_of w) bins_behind) (row-bad (cell_row c) (cells_sound c) place (over - place) (omega arith) g)
+        ∙ refused_plus BAD_CELL place bins_behind
 
   -- at the end of a bin: a bin, and what is left behind its header; where none stands; the end
   module _ (over : ℕ) where

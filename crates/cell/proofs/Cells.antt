@@ -11,9 +11,9 @@ use Rattle.cell.specs.Cells.{magnitude_at, size_at, held, too_small, bytes_left,
 use Rattle.cell.specs.declared.CellSize.{CellSize}
 
 module _ (image : List ℕ) (p least : ℕ) where
-  pub cell-outside : length image < p → refused (by OUTSIDE p) ≡ cell_at image p least
+  pub cell_outside : length image < p → refused (by OUTSIDE p) ≡ cell_at image p least
   unfolding cell_at
-  cell-outside h = simp (lt-ltb _ _ h)
+  cell_outside h = simp (lt-ltb _ _ h)
 
   module _ (h : p ≤ length image) where
     pub cell_no_word : length image - p < 4 → refused (by CUT_SHORT p) ≡ cell_at image p least

@@ -12,7 +12,7 @@ use Rattle.cell.specs.Exactly.{refusal_at, Whole, Cut, Exactly, Reads}
 use Rattle.cell.specs.declared.CellSize.{CellSize}
 use Rattle.cell.specs.declared.CellAnswer.{CellAnswer}
 use Rattle.cell.specs.declared.CellAnswer.TheVariants.{Held, TooSmall, Refused}
-use Rattle.cell.proofs.Cells.{cell-outside, cell_no_word, cell_passes, cell_small, cell-held}
+use Rattle.cell.proofs.Cells.{cell_outside, cell_no_word, cell_passes, cell_small, cell-held}
 use Rattle.cell.proofs.Papers.{paper_injective}
 
 -- the four answers by a number, which tells them apart
@@ -56,7 +56,7 @@ module _ (image : List ℕ) (p least : ℕ) where
         go (yes w) = paper_injective a (refusal_at CUT_SHORT p) (q ∙ sym (cell_passes image p least i (omega arith) refl (omega arith)))
 
     given : (w : Which) → a ≡ answer_of w
-    given (is_outside h) = paper_injective a (refusal_at OUTSIDE p) (q ∙ sym (cell-outside image p least h))
+    given (is_outside h) = paper_injective a (refusal_at OUTSIDE p) (q ∙ sym (cell_outside image p least h))
     given (is_cut h) = cut_given h
     given (is_small ((w, m), l)) =
         paper_injective a (TooSmall (size_at image p))

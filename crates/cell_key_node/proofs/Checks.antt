@@ -121,9 +121,9 @@ module _ (image : List ℕ) (position fixed sign name_at : ℕ) where
       record {
         outside = exactly_when 2;
         short = exactly_when 1;
-        bad-size = exactly_when 3;
+        bad_size = exactly_when 3;
         bad_sign = exactly_when 4;
-        bad-name = exactly_when 5;
+        bad_name = exactly_when 5;
         none = exactly_when 0;
         no_other = few fault said;
       }

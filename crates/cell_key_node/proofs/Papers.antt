@@ -2,7 +2,7 @@
 use mathlib.Core.Path.{◌≡◌, refl, sym, ap}
 use Prim.Native.Nat.{ℕ}
 use native.Mathlib.Omega.{arith}
-use Rattle.words.proofs.Papers.{success-refused, refused-success, same-success, same-told, same-refusal, same-room-refusal}
+use Rattle.words.proofs.Papers.{success-refused, refused-success, same-success, same-told, same-refusal, same_room_refusal}
 use Rattle.cell_key_node.specs.Key.{key_paper}
 use Rattle.cell_key_node.specs.ValueList.{nowhere, at, place_paper, value_list_paper}
 use Rattle.cell_key_node.specs.declared.KeyAnswer.{KeyAnswer}
@@ -39,4 +39,4 @@ pub list_injective : (r t : ValueListAnswer) → value_list_paper r ≡ value_li
 list_injective (Listed n) (Listed m) e = ap Listed (same-success e)
 list_injective (Listed n) (NoList f) e = absurd (success-refused e)
 list_injective (NoList f) (Listed n) e = absurd (refused-success e)
-list_injective (NoList f) (NoList g) e = ap NoList (same-room-refusal (same-told e))
+list_injective (NoList f) (NoList g) e = ap NoList (same_room_refusal (same-told e))

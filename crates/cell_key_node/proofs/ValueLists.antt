@@ -9,7 +9,7 @@ use Rattle.words.specs.declared.Refusal.{Refusal}
 use Rattle.words.specs.Paper.{success, refused, told}
 use Rattle.words.specs.Refusals.{NO_ROOM}
 use Rattle.words.specs.Buffers.{needing}
-use Rattle.words.proofs.Buffers.{room-full, room_fits, room-refused, answered_refused, answered_success}
+use Rattle.words.proofs.Buffers.{room_full, room_fits, room_refused, answered_refused, answered_success}
 use Rattle.cell_key_node.specs.ValueList.{nowhere, at, place_of, value_list_of, entry_of, up_to, entries_of, ListAnswered}
 use Rattle.cell_key_node.specs.declared.ValueListAnswer.TheVariants.{Listed, Refused}
 use Rattle.cell_key_node.proofs.Fill.{up_length}
@@ -21,11 +21,11 @@ module _ (image : List ℕ) (base count : ℕ) (offset : ℤ) (old : List ℕ) w
 
   pub no_place : (f : Refusal) → place_of image base count offset ≡ refused (told f) → ListAnswered image base count offset old (Refused (record { number = f.number; position = f.position; places = 0 })) old
   unfolding value_list_of
-  no_place f e = answered_refused refl (rw e (room-refused needing (length old) (told f)))
+  no_place f e = answered_refused refl (rw e (room_refused needing (length old) (told f)))
 
   pub no_room : (p : ℕ) → place_of image base count offset ≡ success (at p) → length old < count → ListAnswered image base count offset old (Refused (record { number = NO_ROOM; position = 0; places = count })) old
   unfolding value_list_of
-  no_room p e l = answered_refused refl (rw e (room-full needing (length old) count l))
+  no_room p e l = answered_refused refl (rw e (room_full needing (length old) count l))
 
   pub listed : (p : ℕ) (new : List ℕ) → place_of image base count offset ≡ success (at p) → count ≤ length old → new ≡ up_to (entry_of (drop p image)) count ++ drop count old → ListAnswered image base count offset old (Listed count) new
   unfolding value_list_of entries_of

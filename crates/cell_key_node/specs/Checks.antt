@@ -35,9 +35,9 @@ module _ (image : List ℕ) (position fixed sign name_at : ℕ) where
   pub record Exactly : Type 0 where
     pub outside : (fault ≡ OUTSIDE) ↔ (length image < position)
     pub short : (fault ≡ SHORT) ↔ ((position ≤ length image) × (length cell < fixed))
-    pub bad-size : (fault ≡ BAD_SIZE) ↔ ((position ≤ length image) × (Room cell fixed × Unsized cell fixed))
+    pub bad_size : (fault ≡ BAD_SIZE) ↔ ((position ≤ length image) × (Room cell fixed × Unsized cell fixed))
     pub bad_sign : (fault ≡ BAD_SIGN) ↔ ((position ≤ length image) × (Room cell fixed × Sized cell fixed × (Signs cell sign → ⊥)))
-    pub bad-name :
+    pub bad_name :
         (fault ≡ BAD_NAME)
         ↔ ((position ≤ length image) × (Room cell fixed × Sized cell fixed × Signs cell sign × (size_of cell < fixed + word16 cell name_at)))
     pub none :

@@ -9,7 +9,7 @@ use Rattle.words.specs.Paper.{Paper, success, refused, by, told_of_room, on_succ
 use Rattle.words.specs.Buffers.{needing, in_room}
 use Rattle.words.specs.declared.RoomRefusal.{RoomRefusal}
 use Rattle.words.proofs.Papers.{on-refused, on_success_of}
-use Rattle.words.proofs.Buffers.{room-full, room_fits, room-refused, answered_refused, answered_success}
+use Rattle.words.proofs.Buffers.{room_full, room_fits, room_refused, answered_refused, answered_success}
 use Rattle.deleted_keys.specs.declared.DeletedAnswer.{DeletedAnswer}
 use Rattle.deleted_keys.specs.declared.DeletedAnswer.TheVariants.{Listed, Refused}
 use Rattle.deleted_keys.specs.Deleted.{deleted_of, listed_of, row_of, deleted_paper, DeletedAnswered}
@@ -22,7 +22,7 @@ module _ (image : List ℕ) (base size : ℕ) (old : List ℕ) where
   unfolding listed_of
   too_short h r e =
       answered_refused e
-      (ap (in_room needing (length old)) (on-refused length (cut_short image base size h)) ∙ room-refused needing (length old) _)
+      (ap (in_room needing (length old)) (on-refused length (cut_short image base size h)) ∙ room_refused needing (length old) _)
 
   -- the bins are b, and a first pass without room gave r
   module _ (fits : base + size ≤ length image) (b : List ℕ) (part : b ≡ take size (drop base image))
@@ -35,17 +35,17 @@ module _ (image : List ℕ) (base size : ℕ) (old : List ℕ) where
     unfolding listed_of
     told = ap (λ (a : Paper (List ℕ)). in_room needing (length old) (on_success length a)) (in_bins image base size fits b part) ∙ ap (in_room needing (length old)) (sym first.answer)
 
-    pub bins-refused : {f : RoomRefusal} → r ≡ Refused f → DeletedAnswered image base size old (Refused f) mid
-    bins-refused {f} e =
+    pub bins_refused : {f : RoomRefusal} → r ≡ Refused f → DeletedAnswered image base size old (Refused f) mid
+    bins_refused {f} e =
         rw same
-        (answered_refused refl (told ∙ ap (λ (a : DeletedAnswer). in_room needing (length old) (deleted_paper a)) e ∙ room-refused needing (length old) (told_of_room f)))
+        (answered_refused refl (told ∙ ap (λ (a : DeletedAnswer). in_room needing (length old) (deleted_paper a)) e ∙ room_refused needing (length old) (told_of_room f)))
 
     module _ {n : ℕ} (e : r ≡ Listed n) where
       counted : listed_of image base size (length old) ≡ in_room needing (length old) (success n)
       counted = told ∙ ap (λ (a : DeletedAnswer). in_room needing (length old) (deleted_paper a)) e
 
       pub no_room : length mid < n → (a : DeletedAnswer) → deleted_paper a ≡ refused (needing n) → DeletedAnswered image base size old a mid
-      no_room h a q = rw same (answered_refused q (counted ∙ room-full needing (length old) n (rw same at h)))
+      no_room h a q = rw same (answered_refused q (counted ∙ room_full needing (length old) n (rw same at h)))
 
       -- and a second pass with room for all
       pub lists : n ≤ length mid → {a : DeletedAnswer} {new : List ℕ} → Scanned image base b n mid a new → DeletedAnswered image base size old a new

@@ -14,7 +14,7 @@ use Rattle.words.specs.Buffers.{needing}
 use Rattle.words.specs.declared.RoomRefusal.{RoomRefusal}
 use Rattle.words.proofs.Papers.{success-refused, refused-success, same-success, same-told, on_success_of, on_refused_of}
 use Rattle.words.proofs.Plain.{Plainly, plainly_success, plainly_by, plainly_on}
-use Rattle.words.proofs.Buffers.{room-success, full_of_lem, other_of, untouched, filled}
+use Rattle.words.proofs.Buffers.{room_success, full_of_lem, other_of, untouched, filled}
 use Rattle.hive_bin.specs.Walk.{Found, Walk, found, fault, moved, shift, bins_in, bins_at}
 use Rattle.hive_bin.specs.Totals.{negative, answer_of, bins_of}
 use Rattle.hive_bin.specs.Steps.{cells_of, places, Rising}
@@ -130,9 +130,9 @@ shifted_rise base (found n ds) k cs rise e =
 shifted_rise base (fault n p) k cs rise e = absurd (fault-found e)
 
 module _ (image : List ℕ) (base size : ℕ) where
-  bins-fault : (t : Told) → cells_of (bins_at image base size) ≡ refused t → bins_of image base size ≡ refused t
+  bins_fault : (t : Told) → cells_of (bins_at image base size) ≡ refused t → bins_of image base size ≡ refused t
   unfolding bins_of
-  bins-fault t e = fault_of (bins_at image base size) t e
+  bins_fault t e = fault_of (bins_at image base size) t e
 
   -- none of the bins' refusals is 9
   other_number : (t : Told) → bins_of image base size ≡ refused t → t.number ≡ NO_ROOM → ⊥
@@ -144,7 +144,7 @@ module _ (image : List ℕ) (base size : ℕ) where
 
   plainly : Plainly (cells_of (bins_at image base size))
   unfolding cells_of
-  plainly = go (bins_at image base size) (λ t e. other_number t (bins-fault t e))
+  plainly = go (bins_at image base size) (λ t e. other_number t (bins_fault t e))
     where
       go : (w : Walk) → ((t : Told) → cells_of w ≡ refused t → t.number ≡ NO_ROOM → ⊥) → Plainly (cells_of w)
       go (found n cs) h = plainly_success cs
@@ -169,7 +169,7 @@ module _ (image : List ℕ) (base size : ℕ) (old new : List ℕ) where
   pub was_listed : (n : ℕ) → DeletedAnswered image base size old (Listed n) new → WasListed image base size old new n
   unfolding listed_of deleted_of
   was_listed n x =
-      let fits = room-success needing (length old) (on_success length (deleted_of image base size)) n (sym x.answer) in
+      let fits = room_success needing (length old) (on_success length (deleted_of image base size)) n (sym x.answer) in
       let count = on_success_of length (deleted_of image base size) fits.0 in
       let found = on_success_of (positions_of image) (cells_of (bins_at image base size)) count.1 in
       let walk = found_of (bins_at image base size) found.0 found.1 in
@@ -203,5 +203,5 @@ module _ (image : List ℕ) (base size : ℕ) (old new : List ℕ) where
             let told = other_of needing (length old) (on_success length (deleted_of image base size)) (λ v. refl) (sym x.answer) e in
             let fault = on_refused_of (positions_of image) (cells_of (bins_at image base size)) (on_refused_of length (deleted_of image base size) told) in
             let none : f.places ≡ 0 = (plain (told_of_room f) told).places in
-            (bins-fault image base size (told_of_room f) fault ∙ ap (λ (n : ℕ). refused (tell f.number f.position 0 n 0 0)) none, none);
+            (bins_fault image base size (told_of_room f) fault ∙ ap (λ (n : ℕ). refused (tell f.number f.position 0 n 0 0)) none, none);
       }

@@ -36,7 +36,7 @@ pub signature : word32 (104 ∷ 98 ∷ 105 ∷ 110 ∷ []) 0 ≡ hbin
 unfolding little
 signature = refl
 
-pub cells-found : bins_in listing ≡ found 1
+pub cells_found : bins_in listing ≡ found 1
     (record { place = 32; size = negsuc 87 }
     ∷ record { place = 120; size = negsuc 23 }
     ∷ record { place = 144; size = negsuc 87 }
@@ -44,7 +44,7 @@ pub cells-found : bins_in listing ≡ found 1
     ∷ record { place = 320; size = pos 3776 }
     ∷ [])
 unfolding bins_in row row_go bin_row good_bin good_header cell_row good_cell join little signed
-cells-found = refl
+cells_found = refl
 
 -- "bins 1 4 1 288 3776": the bins of the example, behind its base block
 pub example : bins_of (replicate 4096 0 ++ listing) 4096 4096

@@ -96,9 +96,9 @@ cells_fill b = row_fills (cell_row b) (cells_sound b) (cells_whole b)
 
 -- the same from the size word that the code holds
 module _ (b : List ℕ) (at : ℕ) {z : ℤ} (held : mag z < 2 ^ 31) (word : z ≡ size_word b at) where
-  pub cell-size-held : (left : ℕ) {n : ℕ} → n ≡ cell_size (read z) left → size_at (cell_row b) at left ≡ n
+  pub cell_size_held : (left : ℕ) {n : ℕ} → n ≡ cell_size (read z) left → size_at (cell_row b) at left ≡ n
   unfolding cell_size cell_row
-  cell-size-held left e = sym (rw (read_held held word) at e)
+  cell_size_held left e = sym (rw (read_held held word) at e)
 
   pub cell_adds_held : {t : BinTotals} → t ≡ cell_totals (read z) → answer_of ((cell_row b).piece at) ≡ success t
   cell_adds_held e = cell_adds b at ∙ sym (ap success (rw (read_held held word) at e))
@@ -177,12 +177,12 @@ bin_fills b at left e =
     rw (bin_adds b at)
     (plus_fills at 32 (word32 b (at + 8) - 32) (word32 b (at + 8)) _ _ (omega arith) (omega arith, omega arith) (cells_fill b _ _))
 
-pub bins-whole : (b : List ℕ) → Whole (bin_row b)
+pub bins_whole : (b : List ℕ) → Whole (bin_row b)
 unfolding bin_row
-bins-whole b = record { number = (omega arith, omega arith); pieces = bin_fills b }
+bins_whole b = record { number = (omega arith, omega arith); pieces = bin_fills b }
 
 pub bins_fill : (b : List ℕ) (at left : ℕ) → Fills at left (answer_of (row (bin_row b) at left))
-bins_fill b = row_fills (bin_row b) (bins_sound b) (bins-whole b)
+bins_fill b = row_fills (bin_row b) (bins_sound b) (bins_whole b)
 
 -- the same from what the code holds: n is the size that it read
 module _ (b : List ℕ) (at left : ℕ) {n : ℕ} (size : n ≡ bin_size b at left) where

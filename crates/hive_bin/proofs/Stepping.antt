@@ -31,19 +31,19 @@ join-join (found b cs) (fault n p) w = refl
 join-join (found b cs) (found c ds) (fault n p) = refl
 join-join (found b cs) (found c ds) (found d es) = simp (add_assoc, append_assoc)
 
-cells-none : (n : ℕ) (w : Walk) → cells_of (join (found n []) w) ≡ cells_of w
+cells_none : (n : ℕ) (w : Walk) → cells_of (join (found n []) w) ≡ cells_of w
 unfolding cells_of join
-cells-none n (found m cs) = refl
-cells-none n (fault m p) = refl
+cells_none n (found m cs) = refl
+cells_none n (fault m p) = refl
 
-cells-one : (n : ℕ) (c : Found) (w : Walk) → cells_of (join (found n (c ∷ [])) w) ≡ on_success (λ (cs : List Found). c ∷ cs) (cells_of w)
+cells_one : (n : ℕ) (c : Found) (w : Walk) → cells_of (join (found n (c ∷ [])) w) ≡ on_success (λ (cs : List Found). c ∷ cs) (cells_of w)
 unfolding cells_of join on_success
-cells-one n c (found m cs) = refl
-cells-one n c (fault m p) = refl
+cells_one n c (found m cs) = refl
+cells_one n c (fault m p) = refl
 
-cells-fault : (n p : ℕ) (w : Walk) → cells_of (join (fault n p) w) ≡ refused (by n p)
+cells_fault : (n p : ℕ) (w : Walk) → cells_of (join (fault n p) w) ≡ refused (by n p)
 unfolding cells_of join
-cells-fault n p w = refl
+cells_fault n p w = refl
 
 -- ---- what is left
 
@@ -113,7 +113,7 @@ module _ (b : List ℕ) (bin over : ℕ) (good : good_bin b bin (length b - bin)
       go true e =
           let f = eqb-true place over e in
           ap (λ (w : Walk). cells_of (join w (row (bin_row b) over (length b - over)))) (row-end (cell_row b) (cells_sound b) place (over - place) (omega arith))
-          ∙ cells-none 0 _
+          ∙ cells_none 0 _
           ∙ sym (ap (λ (t : Bool). cells_of (cond t (row (bin_row b) over (length b - over)) (in_bin b (over + word32 b (over + 8)) over))) (eq-eqb over over refl))
           ∙ ap (rest b) (next_bin bin over place f)
       go false e =
@@ -145,14 +145,14 @@ module _ (b : List ℕ) (bin over : ℕ) (good : good_bin b bin (length b - bin)
             whole =
                 ap (λ (w : Walk). cells_of (join w (row (bin_row b) over (length b - over)))) (row_more (cell_row b) (cells_sound b) place (over - place) e)
                 ∙ ap cells_of (join-join _ _ _)
-                ∙ cells-one 0 c _
+                ∙ cells_one 0 c _
                 ∙ ap (λ (m : ℕ). on_success (λ (cs : List Found). c ∷ cs) (cells_of (join (row (cell_row b) (place + n) m) (row (bin_row b) over (length b - over))))) z
                 ∙ ap (on_success (λ (cs : List Found). c ∷ cs)) (next_rest (place + n) (omega arith));
           }
       go false e =
           let k = over_in in (
             ap (λ (w : Walk). cells_of (join w (row (bin_row b) over (length b - over)))) (row-bad (cell_row b) (cells_sound b) place (over - place) (omega arith) e)
-                ∙ cells-fault BAD_CELL place _,
+                ∙ cells_fault BAD_CELL place _,
             omega arith,
           )
 
@@ -165,7 +165,7 @@ module _ (b : List ℕ) (bin over : ℕ) (good : good_bin b bin (length b - bin)
       let z : n - 32 ≡ over - (bin + 32) = omega arith in
       let y : length b - bin - n ≡ length b - over = omega arith in
       ap cells_of (row_more (bin_row b) (bins_sound b) bin (length b - bin) good ∙ join-join _ _ _)
-      ∙ cells-none 1 _
+      ∙ cells_none 1 _
       ∙ simp (z, y, sym is)
 
 -- ---- a step from a spot that is led to

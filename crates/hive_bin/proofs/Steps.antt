@@ -20,7 +20,7 @@ use Rattle.hive_bin.specs.declared.Step.TheVariants.{Cell}
 use Rattle.hive_bin.specs.Walk.{Found, size_word, good_cell, cell_row, good_bin, bin_row, cell_size, bin_size}
 use Rattle.hive_bin.specs.Steps.{spot, Stepped, cell, end, next_of, left_in, cell_in, place_of, at_end, step_at, found_in, step_paper, InBin}
 use Rattle.hive_bin.proofs.Rows.{no_size, some_size}
-use Rattle.hive_bin.proofs.Pieces.{cell_facts, cells_sound, bins_sound, cell-size-held, bin_facts, no_bin, bin_size_held}
+use Rattle.hive_bin.proofs.Pieces.{cell_facts, cells_sound, bins_sound, cell_size_held, bin_facts, no_bin, bin_size_held}
 
 -- ---- the next place, and the bytes for a cell
 
@@ -56,14 +56,14 @@ module _ (b : List ℕ) (bin over place : ℕ) {z : ℤ} (held : mag z < 2 ^ 31)
   pub no_cell_in : n ≡ 0 → refused (by BAD_CELL place) ≡ cell_in b bin over place
   unfolding cell_in cell_row
   no_cell_in e =
-      let g = no_size (cell_row b) (cells_sound b) place left (cell-size-held b place held word left size ∙ e) in
+      let g = no_size (cell_row b) (cells_sound b) place left (cell_size_held b place held word left size ∙ e) in
       let k : good_cell (size_word b place) (left_in bin over place) ≡ false = rw room at g in
       simp k
 
   module _ (h : 0 < n) where
     read_cell : (good_cell (size_word b place) left ≡ true) × (nat_abs (size_word b place) ≡ n) × (n ≤ left)
     unfolding cell_row
-    read_cell = some_size (cell_row b) (cells_sound b) place left n (cell-size-held b place held word left size) h
+    read_cell = some_size (cell_row b) (cells_sound b) place left n (cell_size_held b place held word left size) h
 
     pub cell_fits : (8 ≤ n) × (place + n ≤ over)
     cell_fits =
@@ -114,8 +114,8 @@ module _ (b : List ℕ) (s : Spot) where
       next_in_bin f p = in_bin (simp (ne_eqb s.place s.bin f) p)
 
 -- no bin stands past the bins
-pub past-bins : (b : List ℕ) (bin : ℕ) → length b < bin → 0 ≡ bin_size b bin (length b - bin)
-past-bins b bin h = no_bin b bin (length b - bin) (λ e. let k = bin_facts b bin (length b - bin) e in omega arith)
+pub past_bins : (b : List ℕ) (bin : ℕ) → length b < bin → 0 ≡ bin_size b bin (length b - bin)
+past_bins b bin h = no_bin b bin (length b - bin) (λ e. let k = bin_facts b bin (length b - bin) e in omega arith)
 
 -- ---- a cell that is told from any spot
 

@@ -62,7 +62,7 @@ module _ (s : List ℕ) (key : KeyNode) (reads : ReadsAs s key) where
     walk = λ budget old new r x. only_answered x;
     counts = λ budget r x. only_right _ x;
     strict_walk = λ budget minor old new r x. only_answered x;
-    strict-counts = λ budget minor r x. only_right _ x;
+    strict_counts = λ budget minor r x. only_right _ x;
     values = λ old new r x. only_answered x;
     found = λ name r x. only_right _ x;
     demand_3 = λ budget old new r x some few small.
@@ -96,7 +96,7 @@ module _ (s : List ℕ) (key : KeyNode) where
         walk = λ budget old new r x. exactly_untouched _ (answer_never s key.base n l budget _) x;
         counts = λ budget r x. exactly_refuses _ (measured_never s key.base n l budget) x;
         strict_walk = λ budget minor old new r x. exactly_untouched _ (strict_answer_never s key.base n l budget minor _) x;
-        strict-counts = λ budget minor r x. exactly_refuses _ (strict_never s key.base n l budget minor) x;
+        strict_counts = λ budget minor r x. exactly_refuses _ (strict_never s key.base n l budget minor) x;
         values = λ old new r x. exactly_untouched _ (values_never s key.base m o _) x;
         found = λ name r x. exactly_refuses _ (lookup_never s key.base m o name) x;
       }

@@ -37,7 +37,7 @@ pub record Demands (s : List ℕ) (key : KeyNode) : Type 0 where
       → walk_paper r ≡ measured s key.base key.number_of_sub_keys key.sub_keys_list_offset_relative budget
   pub strict_walk : (budget minor : ℕ) (old new : List ℕ) (r : WalkAnswer) → StrictAnsweredOf s key budget minor old r new
       → StrictAnswered s key.base key.number_of_sub_keys key.sub_keys_list_offset_relative budget minor old r new
-  pub strict-counts : (budget minor : ℕ) (r : WalkAnswer) → walk_paper r ≡ strict_measured_of s key budget minor
+  pub strict_counts : (budget minor : ℕ) (r : WalkAnswer) → walk_paper r ≡ strict_measured_of s key budget minor
       → walk_paper r ≡ strict_measured s key.base key.number_of_sub_keys key.sub_keys_list_offset_relative budget minor
   pub values : (old new : List ℕ) (r : ValueListAnswer) → ListAnsweredOf s key old r new
       → ListAnswered s key.base key.number_of_key_values key.key_values_list_offset_relative old r new
@@ -64,7 +64,7 @@ pub record Refused21 (s : List ℕ) (key : KeyNode) : Type 0 where
   pub counts : (budget : ℕ) (r : WalkAnswer) → walk_paper r ≡ measured_of s key budget → (ReadsAs s key → ⊥) ↔ Refuses (walk_paper r)
   pub strict_walk : (budget minor : ℕ) (old new : List ℕ) (r : WalkAnswer) → StrictAnsweredOf s key budget minor old r new
       → (ReadsAs s key → ⊥) ↔ Untouched (walk_paper r) old new
-  pub strict-counts : (budget minor : ℕ) (r : WalkAnswer) → walk_paper r ≡ strict_measured_of s key budget minor
+  pub strict_counts : (budget minor : ℕ) (r : WalkAnswer) → walk_paper r ≡ strict_measured_of s key budget minor
       → (ReadsAs s key → ⊥) ↔ Refuses (walk_paper r)
   pub values : (old new : List ℕ) (r : ValueListAnswer) → ListAnsweredOf s key old r new → (ReadsAs s key → ⊥) ↔ Untouched (value_list_paper r) old new
   pub found : (name : List ℕ) (r : LookupAnswer) → lookup_paper r ≡ found_of s key name → (ReadsAs s key → ⊥) ↔ Refuses (lookup_paper r)

@@ -75,9 +75,9 @@ module _ (t : Totals) (p : ℕ) {i : ℕ} (e : i ≡ place_of t p) where
   unfolding remove_of
   removed h = simp (← e, lt-leb _ _ h) (ap (λ (k : ℕ). outcome (laid t i free) (success (get_or t.places k free).kept)) e)
 
-  pub number-nowhere : PLACES ≤ i → refused (by NOT_FOUND 0) ≡ number_of t p
+  pub number_nowhere : PLACES ≤ i → refused (by NOT_FOUND 0) ≡ number_of t p
   unfolding number_of
-  number-nowhere h = simp (← e, le-leb _ _ h)
+  number_nowhere h = simp (← e, le-leb _ _ h)
 
   pub number_there : i < PLACES → success (get_or t.places i free).kept ≡ number_of t p
   unfolding number_of

@@ -5,7 +5,7 @@ use Rattle.words.specs.Paper.{Told, Paper, success, refused, by}
 use Rattle.words.specs.Buffers.{in_room}
 use Rattle.words.proofs.Little.{Bytes}
 use Rattle.words.proofs.Papers.{success-refused, refused-success, same-success}
-use Rattle.words.proofs.Buffers.{room-full, room_fits}
+use Rattle.words.proofs.Buffers.{room_full, room_fits}
 use Rattle.sub_key_walk.specs.declared.Counts.{Counts}
 use Rattle.sub_key_walk.specs.declared.WalkRefusal.{WalkRefusal}
 use Rattle.sub_key_walk.specs.Answers.{full_of}
@@ -24,7 +24,7 @@ use Rattle.key_totals.specs.Table.{PLACES, free, entry, counted_in, suits, laid,
 use Rattle.key_totals.specs.Rows.{one, entries_in, Entry, Once, Long, Summed, Call, add, replace, remove, named, called, Answers, place_for, content_of, lost, won, more, fewer, read_after, Walked, Gives, Called}
 use Rattle.key_totals.proofs.Places.{same_or_not, first_before, first_is, first_none, first_same}
 use Rattle.key_totals.proofs.Sums.{laid_long, laid_same, laid_other, laid-total, laid_exact, laid_summed}
-use Rattle.key_totals.proofs.Calls.{number-nowhere, number_there}
+use Rattle.key_totals.proofs.Calls.{number_nowhere, number_there}
 use Rattle.key_totals.proofs.OtherPlace.{other_place}
 use Rattle.key_totals.proofs.Entries.{suits-entry, entry-suits, free-entry, same_position, place_entry, free_taken, nowhere}
 
@@ -49,9 +49,9 @@ data Came (s : List ℕ) (t : Totals) (c : Call) (o : Outcome) : Type 0 where
   change : (n : ℕ) → o ≡ outcome (laid t (place_for t c) (content_of c n)) (success n) → Change s t c n → Came s t c o
 
 module _ (s : List ℕ) (t : Totals) where
-  add-room : (key : KeyNode) (budget : ℕ) (st : Counts) → PLACES ≤ place_of t key.position → walked s key budget ≡ success st → is_in_place s key ≡ true
+  add_room : (key : KeyNode) (budget : ℕ) (st : Counts) → PLACES ≤ place_of t key.position → walked s key budget ≡ success st → is_in_place s key ≡ true
       → Came s t (add key budget) (cond (leb PLACES (free_of t)) (refusing t full) (keeping t (free_of t) key.position st.kept))
-  add-room key budget st h m x = go (leb PLACES (free_of t)) refl
+  add_room key budget st h m x = go (leb PLACES (free_of t)) refl
     where
       go : (b : Bool) → leb PLACES (free_of t) ≡ b
           → Came s t (add key budget) (cond b (refusing t full) (keeping t (free_of t) key.position st.kept))
@@ -67,7 +67,7 @@ module _ (s : List ℕ) (t : Totals) where
       go false x b q w m = refusal (by OTHER_PLACE 0) refl
       go true x true q w m = refusal (by ALREADY_IN 0) refl
       go true x false q (refused u) m = refusal u refl
-      go true x false q (success st) m = add-room key budget st (ltb-false _ _ q) m x
+      go true x false q (success st) m = add_room key budget st (ltb-false _ _ q) m x
 
   came_replace : (key : KeyNode) (budget : ℕ) → Came s t (replace key budget) (replace_of t s key budget)
   unfolding replace_of replace_here
@@ -196,7 +196,7 @@ module _ (s : List ℕ) (t : Totals) (l : Long t) where
   -- a key that is removed stands nowhere then
   gone : (p i : ℕ) → i < PLACES → Once t → Entry t i p (get_or t.places i free).kept → number_of (laid t i free) p ≡ refused (by NOT_FOUND 0)
   gone p i h o e =
-      sym (number-nowhere (laid t i free) p refl (rw (laid_long t i free l) at (first_none (suits (Key p)) (laid t i free).places none_there)))
+      sym (number_nowhere (laid t i free) p refl (rw (laid_long t i free l) at (first_none (suits (Key p)) (laid t i free).places none_there)))
     where
       here_or_there : (k : ℕ) → (k ≡ i) ⊎ (k ≡ i → ⊥) → suits (Key p) (get_or (laid t i free).places k free) ≡ true → ⊥
       here_or_there k (inl q) x =
@@ -283,7 +283,7 @@ module _ (s : List ℕ) (t : Totals) (l : Long t) where
     then_others p d = go (leb PLACES (place_of t p)) refl
       where
         go : (b : Bool) → leb PLACES (place_of t p) ≡ b → number_of then p ≡ number_of t p
-        go true q = sym (number-nowhere then p (sym (place_same p d)) (leb-true _ _ q)) ∙ number-nowhere t p refl (leb-true _ _ q)
+        go true q = sym (number_nowhere then p (sym (place_same p d)) (leb-true _ _ q)) ∙ number_nowhere t p refl (leb-true _ _ q)
         go false q =
             let k : place_of t p < PLACES = leb-false _ _ q in
             let o : place_of t p ≡ place_for t c → ⊥ = λ x. was_no_other c n h p (number_in t p) d (subst (λ (i : ℕ). Entry t i p (number_in t p)) x (place_entry t l p k)) in
@@ -314,7 +314,7 @@ walked_own s key budget n w =
       counts = w.0;
       kept = w.2;
       roomy = λ room h. ap (in_room full_of room) w.1 ∙ room_fits full_of room w.0 (rw w.2 h);
-      tight = λ room h. ap (in_room full_of room) w.1 ∙ room-full full_of room w.0 (rw w.2 h);
+      tight = λ room h. ap (in_room full_of room) w.1 ∙ room_full full_of room w.0 (rw w.2 h);
       same = λ old new x y h.
           paper_read x w.0
           (y.answer ∙ here s key _ w.3 ∙ ap (in_room full_of (length old)) w.1 ∙ room_fits full_of (length old) w.0 (rw w.2 h));

@@ -86,6 +86,6 @@ module _ (t : Totals) (l : Long t) where
         known = λ p. ((λ h. (place_of t p, number_in t p, place_entry p h)), has_place p);
         all_taken = (full_taken, taken_full);
         at_place = place_entry;
-        at-free = free_taken;
+        at_free = free_taken;
         before_free = taken_before;
       }

@@ -16,7 +16,7 @@ use Rattle.key_totals.specs.Rows.{total, Entry, Once, Long, Summed, Call, add, r
 use Rattle.key_totals.proofs.Places.{same_or_not}
 use Rattle.key_totals.proofs.Sums.{summed_fits}
 use Rattle.key_totals.proofs.Entries.{place_entry, free-entry, same_position, same_number, finds}
-use Rattle.key_totals.proofs.Calls.{number-nowhere}
+use Rattle.key_totals.proofs.Calls.{number_nowhere}
 use Rattle.key_totals.proofs.Changes.{Change, Changing, either, laid_there, stood, gives_at, calls}
 
 -- ---- the empty table
@@ -105,7 +105,7 @@ held-row s b (c ∷ cs) t u m o a p =
     ∙ ap (λ (x : Outcome). held_after s x.table cs p (held_by c p (number_of t p) (called s t c).answer)) a.1
 
 none_reads : (p : ℕ) → number_of none p ≡ refused (by NOT_FOUND 0)
-none_reads p = sym (number-nowhere none p refl (by_contra _ _ (λ h. none_empty (place_of none p) p (number_in none p) (place_entry none none_summed.long p h))))
+none_reads p = sym (number_nowhere none p refl (by_contra _ _ (λ h. none_empty (place_of none p) p (number_in none p) (place_entry none none_summed.long p h))))
 
 row-holds : (s : List ℕ) → Bytes s → (cs : List Call) (t : Totals) → Began s cs t → Row s cs t
 row-holds s b cs t a =

@@ -88,7 +88,7 @@ pub record Examples : Type 0 where
   pub full : answers nearly (plain 40 ∷ plain 80 ∷ plain 120 ∷ plain 40 ∷ plain 200 ∷ remove 1017 ∷ plain 120 ∷ plain 160 ∷ [])
       ≡ success 2 ∷ success 2 ∷ refused (no_room_told 0 257 0 0) ∷ refused (by ALREADY_IN 0) ∷ refused (fault BAD_SIGN 4 0) ∷ success 2 ∷ success 2
       ∷ refused (no_room_told 0 257 0 0) ∷ []
-  pub full-total : (after nearly (plain 40 ∷ plain 80 ∷ [])).total ≡ 512
+  pub full_total : (after nearly (plain 40 ∷ plain 80 ∷ [])).total ≡ 512
   -- a table that no call made: the first place with the position counts, and the total is taken modulo 2^64
   pub made_up_full : answers made_up (plain 40 ∷ remove 7 ∷ plain 40 ∷ remove 7 ∷ []) ≡ refused (no_room_told 0 257 0 0) ∷ success 1 ∷ success 2 ∷ success 1 ∷ []
   pub made_up_after : after made_up (remove 7 ∷ plain 40 ∷ []) ≡ totals (entry 40 2 ∷ replicate 255 (entry 7 1)) 0

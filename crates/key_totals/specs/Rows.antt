@@ -186,7 +186,7 @@ pub record Finds (t : Totals) : Type 0 where
   pub known : (p : ℕ) → (place_of t p < PLACES) ↔ Has t p
   pub all_taken : (PLACES ≤ free_of t) ↔ (entries_in t ≡ PLACES)
   pub at_place : (p : ℕ) → place_of t p < PLACES → Entry t (place_of t p) p (number_in t p)
-  pub at-free : free_of t < PLACES → (get_or t.places (free_of t) free).taken ≡ false
+  pub at_free : free_of t < PLACES → (get_or t.places (free_of t) free).taken ≡ false
   pub before_free : (i : ℕ) → i < free_of t → (get_or t.places i free).taken ≡ true
 
 -- `r` is what the call `c` answers

@@ -7,9 +7,9 @@ use lib.ListN.{length, length-append}
 use Rattle.words.specs.Paper.{Told, Paper, success, refused}
 use Rattle.words.specs.Buffers.{needing, in_room}
 use Rattle.words.proofs.Papers.{on-success, on-refused}
-use Rattle.words.proofs.Buffers.{room-full, room_fits, room-refused, answered_refused, answered_success}
+use Rattle.words.proofs.Buffers.{room_full, room_fits, room_refused, answered_refused, answered_success}
 use Rattle.writing.specs.Writing.{bytes_of, with_bytes}
-use Rattle.writing.proofs.Writing.{bytes-length, with_length, with_front, with_more}
+use Rattle.writing.proofs.Writing.{bytes_length, with_length, with_front, with_more}
 use Rattle.cell_key_node.specs.ValueList.{up_to}
 use Rattle.cell_key_node.proofs.Fill.{up_length}
 use Rattle.sub_key_list.specs.Lists.{LH, LI, entry_size}
@@ -23,7 +23,7 @@ use Rattle.list_conversion.proofs.Sizes.{size_holds}
 pub header-length : (cell kind n : ℕ) → length (header cell kind n) ≡ 8
 header-length cell kind n =
     length-append (bytes_of 4 (4294967296 - cell)) (bytes_of 2 kind ++ bytes_of 2 n)
-    ∙ omega (arith, length-append (bytes_of 2 kind) (bytes_of 2 n), bytes-length 4 (4294967296 - cell), bytes-length 2 kind, bytes-length 2 n)
+    ∙ omega (arith, length-append (bytes_of 2 kind) (bytes_of 2 n), bytes_length 4 (4294967296 - cell), bytes_length 2 kind, bytes_length 2 n)
 
 -- header, entries and zeros, one behind another, are the cell
 pub cell-put :
@@ -40,7 +40,7 @@ cell-put size kind es old h {one} {two} x y z =
     let rest : List ℕ = zeros (cell - list_size size n) in
     let a : length head ≡ 8 = header-length cell kind n in
     let b : length row ≡ size * n = row-length size es in
-    let c : length rest ≡ cell - list_size size n = bytes-length (cell - list_size size n) 0 in
+    let c : length rest ≡ cell - list_size size n = bytes_length (cell - list_size size n) 0 in
     let l : list_size size n ≤ cell = size_holds size n in
     let ab : length (head ++ row) ≡ list_size size n = length-append head row ∙ omega arith in
     let here : 8 ≡ 0 + length head = omega arith in
@@ -55,7 +55,7 @@ cell-put size kind es old h {one} {two} x y z =
 module _ (kind : ℕ) (a : Paper (List ℕ)) (old : List ℕ) where
   pub conversion_refused : {t : Told} → a ≡ refused t → (r : ConversionAnswer) → conversion_paper r ≡ refused t → Converted kind a old r old
   unfolding size_of
-  conversion_refused {t} e r q = answered_refused q (ap (in_room needing (length old)) (on-refused _ e) ∙ room-refused needing (length old) t)
+  conversion_refused {t} e r q = answered_refused q (ap (in_room needing (length old)) (on-refused _ e) ∙ room_refused needing (length old) t)
 
   module _ {es : List ℕ} (e : a ≡ success es) {cell : ℕ} (k : cell ≡ cell_size (entry_size kind) (length es)) where
     sized : size_of kind a ≡ success cell
@@ -63,7 +63,7 @@ module _ (kind : ℕ) (a : Paper (List ℕ)) (old : List ℕ) where
     sized = on-success _ e ∙ ap success (sym k)
 
     pub conversion_full : length old < cell → (r : ConversionAnswer) → conversion_paper r ≡ refused (needing cell) → Converted kind a old r old
-    conversion_full h r q = answered_refused q (ap (in_room needing (length old)) sized ∙ room-full needing (length old) cell h)
+    conversion_full h r q = answered_refused q (ap (in_room needing (length old)) sized ∙ room_full needing (length old) cell h)
 
     pub conversion_written : cell ≤ length old → {new : List ℕ} → new ≡ with_bytes old 0 (cell_with (entry_size kind) kind es) → Converted kind a old (Written cell) new
     unfolding cell_of
@@ -73,13 +73,13 @@ module _ (kind : ℕ) (a : Paper (List ℕ)) (old : List ℕ) where
 
 -- ---- the same, where the entries are f 0, f 1, .. before f n
 
-pub lh-size : 8 ≡ entry_size LH
+pub lh_size : 8 ≡ entry_size LH
 unfolding entry_size
-lh-size = refl
+lh_size = refl
 
-pub li-size : 4 ≡ entry_size LI
+pub li_size : 4 ≡ entry_size LI
 unfolding entry_size
-li-size = refl
+li_size = refl
 
 module _ (kind size : ℕ) (z : size ≡ entry_size kind) (n : ℕ) {cell : ℕ} (k : cell ≡ cell_size size n) (old : List ℕ) where
   -- what the calls that write ask for

@@ -6,7 +6,7 @@ use lib.ListN.{length, drop}
 use Rattle.words.specs.Paper.{Paper, success}
 use Rattle.words.specs.Buffers.{needing, in_room}
 use Rattle.words.proofs.Papers.{refused-success, same-success, on-success}
-use Rattle.words.proofs.Buffers.{room-success, room_fits}
+use Rattle.words.proofs.Buffers.{room_success, room_fits}
 use Rattle.sub_key_list.specs.Lists.{LH, LI, entry_size}
 use Rattle.cell_key_node.specs.ValueList.{up_to}
 use Rattle.cell_key_node.proofs.Fill.{up_length, up_at}
@@ -27,7 +27,7 @@ module _ (kind : ℕ) (a : Paper (List ℕ)) (old : List ℕ) (r : ConversionAns
   wrote w =
       let y : Converted kind a old (Written w.0) new = subst (λ (q : ConversionAnswer). Converted kind a old q new) w.1 x in
       let e = found kind a old new w.0 y in
-      let k = room-success needing (length old) (size_of kind a) w.0 (sym y.answer) in
+      let k = room_success needing (length old) (size_of kind a) w.0 (sym y.answer) in
       let c : cell_size (entry_size kind) (length e.0) ≡ w.0 = same-success (sym (on-success _ e.1) ∙ k.0) in
       (e.0, e.1, rw c k.1)
 

@@ -3,7 +3,7 @@ use mathlib.Core.Path.{◌≡◌, ap}
 use mathlib.Core.List.{List}
 use Prim.Native.Nat.{ℕ}
 use Rattle.words.specs.Paper.{Paper}
-use Rattle.words.proofs.Papers.{success-refused, refused-success, same-success, same-told, same-room-refusal}
+use Rattle.words.proofs.Papers.{success-refused, refused-success, same-success, same-told, same_room_refusal}
 use Rattle.words.proofs.Buffers.{determined}
 use Rattle.list_conversion.specs.Answers.{conversion_paper, Converted, LhAnswered, LiAnswered}
 use Rattle.list_conversion.specs.Entries.{lh_entries, li_entries}
@@ -15,7 +15,7 @@ pub conversion_injective : (r t : ConversionAnswer) → conversion_paper r ≡ c
 conversion_injective (Written n) (Written m) e = ap Written (same-success e)
 conversion_injective (Written n) (Refused g) e = absurd (success-refused e)
 conversion_injective (Refused f) (Written m) e = absurd (refused-success e)
-conversion_injective (Refused f) (Refused g) e = ap Refused (same-room-refusal (same-told e))
+conversion_injective (Refused f) (Refused g) e = ap Refused (same_room_refusal (same-told e))
 
 conversion_determined : (kind : ℕ) (a : Paper (List ℕ)) (old : List ℕ) (r t : ConversionAnswer) (new new' : List ℕ)
     → Converted kind a old r new → Converted kind a old t new' → (r ≡ t) × (new ≡ new')

@@ -9,7 +9,7 @@ use lib.Seq.{drop_at, drop-append-add, drop-drop, get_or-append-add}
 use Rattle.words.specs.Words.{byte_at, little}
 use Rattle.words.proofs.Little.{little-same, little-drop, little_split, little_lt}
 use Rattle.writing.specs.Writing.{bytes_of}
-use Rattle.writing.proofs.Writing.{bytes-length, bytes_lt, bytes_back, row_back}
+use Rattle.writing.proofs.Writing.{bytes_length, bytes_lt, bytes_back, row_back}
 use Rattle.list_conversion.specs.Cells.{list_size, cell_size, header, row_bytes, zeros, cell_with}
 use Rattle.list_conversion.specs.Entries.{entry}
 use Rattle.list_conversion.proofs.Sizes.{size_holds}
@@ -46,7 +46,7 @@ row_from size [] ys i h = absurd (not-suc-le-zero h)
 row_from size (e ∷ es) ys zero h = rw mul-zero (append_assoc (bytes_of size e) (row_bytes size es) ys)
 row_from size (e ∷ es) ys (suc i) h =
     ap (drop (size * suc i)) (append_assoc (bytes_of size e) (row_bytes size es) ys)
-    ∙ ap (λ (k : ℕ). drop k (bytes_of size e ++ (row_bytes size es ++ ys))) (let b = bytes-length size e in let m = mul-suc size i in let g : size * suc i ≡ length (bytes_of size e) + size * i = omega arith in g)
+    ∙ ap (λ (k : ℕ). drop k (bytes_of size e ++ (row_bytes size es ++ ys))) (let b = bytes_length size e in let m = mul-suc size i in let g : size * suc i ≡ length (bytes_of size e) + size * i = omega arith in g)
     ∙ drop-append-add (bytes_of size e) (row_bytes size es ++ ys) (size * i)
     ∙ row_from size es ys i (omega arith)
 
@@ -86,12 +86,12 @@ module _ (size kind : ℕ) (es tail : List ℕ) where
 
   pub kind_there : kind < 65536 → little 2 buffer 4 ≡ kind
   kind_there h =
-      (λ i. little 2 (nested i) (sym (bytes-length 4 word) i)) ∙ row_back (bytes_of 4 word) (bytes_of 2 n ++ (row ++ (rest ++ tail))) 2 kind h
+      (λ i. little 2 (nested i) (sym (bytes_length 4 word) i)) ∙ row_back (bytes_of 4 word) (bytes_of 2 n ++ (row ++ (rest ++ tail))) 2 kind h
 
   pub count_there : n < 65536 → little 2 buffer 6 ≡ n
   count_there h =
       let a : List ℕ = bytes_of 4 word ++ bytes_of 2 kind in
-      let l : 6 ≡ length a = omega (arith, length-append (bytes_of 4 word) (bytes_of 2 kind), bytes-length 4 word, bytes-length 2 kind) in
+      let l : 6 ≡ length a = omega (arith, length-append (bytes_of 4 word) (bytes_of 2 kind), bytes_length 4 word, bytes_length 2 kind) in
       let e : buffer ≡ a ++ (bytes_of 2 n ++ (row ++ (rest ++ tail))) = nested ∙ sym (append_assoc (bytes_of 4 word) (bytes_of 2 kind) (bytes_of 2 n ++ (row ++ (rest ++ tail)))) in
       (λ i. little 2 (e i) (l i)) ∙ row_back a (row ++ (rest ++ tail)) 2 n h
 
@@ -104,7 +104,7 @@ module _ (size kind : ℕ) (es tail : List ℕ) where
       ∙ ap (drop (size * i)) (drop_at (header cell kind n) (row ++ (rest ++ tail)) 8 (header-length cell kind n))
       ∙ row_from size es (rest ++ tail) i h in
       sym (little-drop m (8 + size * i) buffer j) ∙ ap (λ (l : List ℕ). little m l j) e
-      ∙ word_first m (bytes_of size (get_or es i 0)) (row_bytes size (drop (suc i) es) ++ (rest ++ tail)) j (omega (arith, bytes-length size (get_or es i 0)))
+      ∙ word_first m (bytes_of size (get_or es i 0)) (row_bytes size (drop (suc i) es) ++ (rest ++ tail)) j (omega (arith, bytes_length size (get_or es i 0)))
 
   -- the rest of the cell
   pub zero_there : (i : ℕ) → list_size size n ≤ i → i < cell → byte_at buffer i ≡ 0
@@ -115,9 +115,9 @@ module _ (size kind : ℕ) (es tail : List ℕ) where
       let e : buffer ≡ a ++ (rest ++ tail) = behind-header ∙ sym (append_assoc (header cell kind n) row (rest ++ tail)) in
       let at : i ≡ length a + j = omega arith in
       (λ u. byte_at (e u) (at u)) ∙ get_or-append-add a (rest ++ tail) j 0
-      ∙ get_or-append rest tail 0 j (omega (arith, bytes-length (cell - list_size size n) 0)) ∙ zero_byte (cell - list_size size n) j
+      ∙ get_or-append rest tail 0 j (omega (arith, bytes_length (cell - list_size size n) 0)) ∙ zero_byte (cell - list_size size n) j
 
   pub buffer_length : length buffer ≡ cell + length tail
   buffer_length =
       ap length behind-header
-      ∙ omega (arith, length-append (header cell kind n) (row ++ (rest ++ tail)), length-append row (rest ++ tail), length-append rest tail, header-length cell kind n, row-length size es, bytes-length (cell - list_size size n) 0, size_holds size n)
+      ∙ omega (arith, length-append (header cell kind n) (row ++ (rest ++ tail)), length-append row (rest ++ tail), length-append rest tail, header-length cell kind n, row-length size es, bytes_length (cell - list_size size n) 0, size_holds size n)

@@ -8,7 +8,7 @@ use native.Mathlib.Numerals.{add-one}
 use native.Mathlib.Omega.{arith}
 use lib.ListN.{length, length-append}
 use Rattle.writing.specs.Writing.{bytes_of, with_bytes, PutAt}
-use Rattle.writing.proofs.Writing.{bytes-length, with_length, with_none, put-after}
+use Rattle.writing.proofs.Writing.{bytes_length, with_length, with_none, put-after}
 use Rattle.cell_key_node.specs.ValueList.{up_to}
 use Rattle.cell_key_node.proofs.Fill.{up_length}
 use Rattle.list_conversion.specs.Cells.{list_size, header, row_bytes}
@@ -21,8 +21,8 @@ pub header-put :
 header-put old cell kind n h x y z =
     let a : List ℕ = bytes_of 4 (4294967296 - cell) in
     let b : List ℕ = bytes_of 2 kind in
-    let k : length a ≡ 4 = bytes-length 4 (4294967296 - cell) in
-    let l : length b ≡ 2 = bytes-length 2 kind in
+    let k : length a ≡ 4 = bytes_length 4 (4294967296 - cell) in
+    let l : length b ≡ 2 = bytes_length 2 kind in
     let m : length (a ++ b) ≡ 6 = length-append a b ∙ omega arith in
     let u = put-after old 0 [] x (sym (with_none old 0)) refl (omega arith) in
     let v = put-after old 0 a y u (omega arith) (omega arith) in
@@ -34,7 +34,7 @@ module _ (size : ℕ) where
   row-length [] = sym (mul-zero size)
   row-length (e ∷ es) =
       length-append (bytes_of size e) (row_bytes size es)
-      ∙ omega (arith, bytes-length size e, row-length es, mul-suc size (length es))
+      ∙ omega (arith, bytes_length size e, row-length es, mul-suc size (length es))
 
   -- one entry more
   pub row_more : (es : List ℕ) (e : ℕ) → row_bytes size (es ++ (e ∷ [])) ≡ row_bytes size es ++ bytes_of size e
@@ -66,7 +66,7 @@ module _ (size : ℕ) where
           let next : size * suc i ≤ size * n = mul-le-mul {n₁ = size} {m₁ = suc i} {n₂ = size} {m₂ = n} (omega arith) (omega arith) in
           let m : size * suc i ≡ size * i + size = mul-suc size i in
           let h : list_size size n ≤ length old = x.room in
-          let b : length (bytes_of size e) ≡ size = bytes-length size e in
+          let b : length (bytes_of size e) ≡ size = bytes_length size e in
           let w : length row ≡ size * i = wide in
           let so : new ≡ with_bytes old 8 (row ++ bytes_of size e) = put-after old 8 row p x.so (omega arith) (omega arith) in
           let grown : row_bytes size (up_to f (i + 1)) ≡ row ++ bytes_of size e =

@@ -25,5 +25,5 @@ module _ (size n : ℕ) where
   unfolding cell_size
   size_multiple = mul-mod_left ((list_size size n + 7) / 8) 8
 
-  pub size-least : (m : ℕ) → m % 8 ≡ 0 → list_size size n ≤ m → cell_size size n ≤ m
-  size-least m e h = omega (arith, size_spare, div-add-mod m 8, div-add-mod (cell_size size n) 8, size_multiple)
+  pub size_least : (m : ℕ) → m % 8 ≡ 0 → list_size size n ≤ m → cell_size size n ≤ m
+  size_least m e h = omega (arith, size_spare, div-add-mod m 8, div-add-mod (cell_size size n) 8, size_multiple)

@@ -12,7 +12,7 @@ use Rattle.words.specs.Words.{byte_at, little, word32, signed, Bytes}
 use Rattle.words.specs.Paper.{Paper, success}
 use Rattle.words.specs.Buffers.{needing}
 use Rattle.words.proofs.Papers.{same-success, on-success, on_success_of}
-use Rattle.words.proofs.Buffers.{room-success, filled}
+use Rattle.words.proofs.Buffers.{room_success, filled}
 use Rattle.words.proofs.Signed.{magnitude_is}
 use Rattle.cell.specs.Cells.{magnitude_at, allocated_at}
 use Rattle.sub_key_list.specs.Lists.{LF, LH, LI, RI, entry_size, leaf, count_at, list_at}
@@ -28,10 +28,10 @@ use Rattle.list_conversion.specs.Entries.{offset_in, key_hash, lh_entries, li_en
 use Rattle.list_conversion.specs.Answers.{size_of, cell_for, Converted}
 use Rattle.list_conversion.specs.Written.{offset_at, hash_at, CellReads, Cells, Became, WroteLh, WroteLi}
 use Rattle.list_conversion.specs.declared.ConversionAnswer.TheVariants.{Written}
-use Rattle.list_conversion.proofs.Sizes.{list_small, size_holds, size_spare, size_multiple, size-least}
+use Rattle.list_conversion.proofs.Sizes.{list_small, size_holds, size_spare, size_multiple, size_least}
 use Rattle.list_conversion.proofs.Lists.{leaf_read}
 use Rattle.list_conversion.proofs.Entries.{key_hash_small, lh_of, li_of}
-use Rattle.list_conversion.proofs.Answers.{lh-size, li-size}
+use Rattle.list_conversion.proofs.Answers.{lh_size, li_size}
 use Rattle.list_conversion.proofs.Reading.{entry_words, word_there, kind_there, count_there, entry_there, zero_there, buffer_length}
 
 -- ---- the size word of a cell that is written
@@ -118,7 +118,7 @@ module _ (kind size : ℕ) (z : size ≡ entry_size kind) where
       pub stands : (a : Paper (List ℕ)) → a ≡ success es → (n : ℕ) (new : List ℕ) → Converted kind a old (Written n) new → Stands es old new n
       unfolding size_of cell_of
       stands a e n new x =
-          let r = room-success needing (length old) (size_of kind a) n (sym x.answer) in
+          let r = room_success needing (length old) (size_of kind a) n (sym x.answer) in
           let c : cell ≡ n = ap (λ (u : ℕ). cell_size u (length es)) z ∙ same-success (sym (on-success _ e) ∙ r.0) in
           let f : new ≡ cell_for kind a ++ drop (length (cell_for kind a)) old = filled x refl in
           let g : new ≡ cell_with size kind es ++ drop (length (cell_with size kind es)) old = f ∙ rw (e, z) in
@@ -149,7 +149,7 @@ module _ (kind : ℕ) (es tail : List ℕ) (m : length es < 65536) where
         long = w;
         multiple = rw w (size_multiple z (length es));
         holds = rw w (size_holds z (length es));
-        least = λ u q h. rw w (size-least z (length es) u q h);
+        least = λ u q h. rw w (size_least z (length es) u q h);
         magnitude = st.magnitude ∙ sym w;
         allocated = st.allocated;
         strict = stands_strict kind z refl no_index es (one ++ tail) (one ++ tail) c st;
@@ -167,7 +167,7 @@ cells kind (inr (inr e)) es tail m = subst (λ (k : ℕ). CellReads k es tail) (
 pub found : (kind : ℕ) (a : Paper (List ℕ)) (old new : List ℕ) (n : ℕ) → Converted kind a old (Written n) new → (es : List ℕ) × (a ≡ success es)
 unfolding size_of
 found kind a old new n x =
-    let r = room-success needing (length old) (size_of kind a) n (sym x.answer) in
+    let r = room_success needing (length old) (size_of kind a) n (sym x.answer) in
     let y = on_success_of (λ (l : List ℕ). cell_size (entry_size kind) (length l)) a r.0 in
     (y.0, y.1)
 
@@ -194,7 +194,7 @@ module _
           allocated = st.allocated;
           multiple = rw y (size_multiple to-size count);
           holds = rw y (size_holds to-size count);
-          least = λ m e h. rw y (size-least to-size count m e h);
+          least = λ m e h. rw y (size_least to-size count m e h);
           zeroed = λ i h g. st.zeroed i (rw k h) g;
           room = st.room;
           behind = st.behind;
@@ -222,9 +222,9 @@ wrote_li s b p old new n x =
     let f : ℕ → ℕ = offset_in (drop p s) 8 in
     let k : length es ≡ o.count = ap length o.entries ∙ up_length f o.count in
     let c : o.count < 65536 = few_entries s b p o.list in
-    let st = stands LI 4 li-size (omega arith) (omega arith) (omega arith) (omega arith) es (omega arith) old (li_entries s p) y.1 n new x in (
+    let st = stands LI 4 li_size (omega arith) (omega arith) (omega arith) (omega arith) es (omega arith) old (li_entries s p) y.1 n new x in (
       o.count,
-      became LH 8 LI 4 li-size (omega arith) s p o.count o.list es old new k n st
+      became LH 8 LI 4 li_size (omega arith) s p o.count o.list es old new k n st
           (λ i l.
           let e : get_or es i 0 ≡ f i = ap (λ (r : List ℕ). get_or r i 0) o.entries ∙ up_at f o.count i l in
           let at : 0 + (8 + 4 * i) ≡ 8 + 4 * i + 0 = omega arith in
@@ -241,13 +241,13 @@ wrote_lh s b p image base old new n x =
     let g : ℕ → ℕ = offset_in (drop p s) 4 in
     let k : length es ≡ o.count = ap length o.entries ∙ up_length f o.count in
     let c : o.count < 65536 = few_entries s b p o.list in
-    let st = stands LH 8 lh-size (omega arith) (omega arith) (omega arith) (omega arith) es (omega arith) old (lh_entries s p image base) y.1 n new x in
+    let st = stands LH 8 lh_size (omega arith) (omega arith) (omega arith) (omega arith) es (omega arith) old (lh_entries s p image base) y.1 n new x in
     let word : (i : ℕ) → i < o.count → (j : ℕ) → j + 4 ≤ 8 → little 4 new (8 + 8 * i + j) ≡ little 4 (bytes_of 8 (f i)) j =
     λ i l j q. st.words 4 i j (omega arith) q ∙ ap (λ (u : ℕ). little 4 (bytes_of 8 u) j) (ap (λ (r : List ℕ). get_or r i 0) o.entries ∙ up_at f o.count i l) in
     let both : (i : ℕ) → i < o.count → (little 4 (bytes_of 8 (f i)) 0 ≡ g i) × (little 4 (bytes_of 8 (f i)) 4 ≡ hash_of image base (g i)) =
     λ i l. entry_words (g i) (hash_of image base (g i)) (offset_small s b p 4 i) (key_hash_small image (g i + base) (o.hashes i l)) in (
       o.count,
-      became LI 4 LH 8 lh-size (omega arith) s p o.count o.list es old new k n st
+      became LI 4 LH 8 lh_size (omega arith) s p o.count o.list es old new k n st
           (λ i l.
           let at : 0 + (8 + 8 * i) ≡ 8 + 8 * i + 0 = omega arith in
           ap (word32 new) at ∙ word i l 0 (omega arith) ∙ (both i l).0 ∙ offset_there s p 4 i),

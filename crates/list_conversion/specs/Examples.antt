@@ -51,13 +51,13 @@ pub record Examples : Type 0 where
   pub back : li_entries (cell_of LH three) 0 ≡ success (0 ∷ 88 ∷ 176 ∷ [])
   pub there : lh_entries (cell_of LI (0 ∷ 88 ∷ 176 ∷ [])) 0 image 16 ≡ success three
   -- the cells: no entry, one, two; an `li` cell of one entry has 4 bytes to spare
-  pub lh-none : cell_of LH [] ≡ 0xF8 ∷ 0xFF ∷ 0xFF ∷ 0xFF ∷ 0x6C ∷ 0x68 ∷ 0 ∷ 0 ∷ []
-  pub lh-one :
+  pub lh_none : cell_of LH [] ≡ 0xF8 ∷ 0xFF ∷ 0xFF ∷ 0xFF ∷ 0x6C ∷ 0x68 ∷ 0 ∷ 0 ∷ []
+  pub lh_one :
       cell_of LH (entry 0x21 2471 ∷ [])
       ≡ 0xF0 ∷ 0xFF ∷ 0xFF ∷ 0xFF ∷ 0x6C ∷ 0x68 ∷ 1 ∷ 0 ∷ 0x21 ∷ 0 ∷ 0 ∷ 0 ∷ 0xA7 ∷ 9 ∷ 0 ∷ 0 ∷ []
-  pub li-none : cell_of LI [] ≡ 0xF8 ∷ 0xFF ∷ 0xFF ∷ 0xFF ∷ 0x6C ∷ 0x69 ∷ 0 ∷ 0 ∷ []
-  pub li-one : cell_of LI (0x21 ∷ []) ≡ 0xF0 ∷ 0xFF ∷ 0xFF ∷ 0xFF ∷ 0x6C ∷ 0x69 ∷ 1 ∷ 0 ∷ 0x21 ∷ 0 ∷ 0 ∷ 0 ∷ 0 ∷ 0 ∷ 0 ∷ 0 ∷ []
-  pub li-two : cell_of LI (0x21 ∷ 0x22 ∷ []) ≡ 0xF0 ∷ 0xFF ∷ 0xFF ∷ 0xFF ∷ 0x6C ∷ 0x69 ∷ 2 ∷ 0 ∷ 0x21 ∷ 0 ∷ 0 ∷ 0 ∷ 0x22 ∷ 0 ∷ 0 ∷ 0 ∷ []
+  pub li_none : cell_of LI [] ≡ 0xF8 ∷ 0xFF ∷ 0xFF ∷ 0xFF ∷ 0x6C ∷ 0x69 ∷ 0 ∷ 0 ∷ []
+  pub li_one : cell_of LI (0x21 ∷ []) ≡ 0xF0 ∷ 0xFF ∷ 0xFF ∷ 0xFF ∷ 0x6C ∷ 0x69 ∷ 1 ∷ 0 ∷ 0x21 ∷ 0 ∷ 0 ∷ 0 ∷ 0 ∷ 0 ∷ 0 ∷ 0 ∷ []
+  pub li_two : cell_of LI (0x21 ∷ 0x22 ∷ []) ≡ 0xF0 ∷ 0xFF ∷ 0xFF ∷ 0xFF ∷ 0x6C ∷ 0x69 ∷ 2 ∷ 0 ∷ 0x21 ∷ 0 ∷ 0 ∷ 0 ∷ 0x22 ∷ 0 ∷ 0 ∷ 0 ∷ []
   -- "BAD SIGN for another kind", at the list's position: here 4 bytes stand before the list
   pub lf_to_li : li_entries (zeros 4 ++ list LF 1 8 (entry 0 65 ∷ [])) 4 ≡ refused (by BAD_SIGN 4)
   pub li_to_li : li_entries (zeros 4 ++ li (0 ∷ [])) 4 ≡ refused (by BAD_SIGN 4)
@@ -71,7 +71,7 @@ pub record Examples : Type 0 where
   pub sum : to_lh (0xFFFFFFF0 ∷ []) ≡ refused (by OUTSIDE 4294967296)
   pub record_sum : to_lh (0xFFFFFFEF ∷ []) ≡ refused (by OUTSIDE 4294967295)
   -- "those of the key record or hash": at its position, and at 0
-  pub key-refused : to_lh (8 ∷ []) ≡ refused (by BAD_SIZE 24)
+  pub key_refused : to_lh (8 ∷ []) ≡ refused (by BAD_SIZE 24)
   pub hash_refused : to_lh (264 ∷ []) ≡ refused (by BAD_NAME 0)
   -- "entry by entry": the first fault decides
   pub first : to_lh (0 ∷ 264 ∷ 0xFFFFFFF0 ∷ []) ≡ refused (by BAD_NAME 0)

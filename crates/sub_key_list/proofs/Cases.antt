@@ -19,9 +19,9 @@ pub entries_fit : (size count : ℕ) → size < 256 → count < 65536 → size *
 entries_fit size count h k = mul-le-mul {n₁ = size} {m₁ = count} {n₂ = 255} {m₂ = 65535} (omega arith) (omega arith)
 
 module _ (s : List ℕ) (p : ℕ) where
-  pub list-outside : length s < p → refused (by OUTSIDE p) ≡ list_at s p
+  pub list_outside : length s < p → refused (by OUTSIDE p) ≡ list_at s p
   unfolding list_at
-  list-outside h = simp (lt-ltb _ _ h)
+  list_outside h = simp (lt-ltb _ _ h)
 
   -- the position is in the image, and so many bytes stand from it on
   module _ (h : p ≤ length s) {left : ℕ} (q : left ≡ length s - p) where

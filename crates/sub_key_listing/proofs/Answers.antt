@@ -10,7 +10,7 @@ use Rattle.words.specs.Paper.{Paper, success, refused, by, on_success, then_by}
 use Rattle.words.specs.Buffers.{in_room}
 use Rattle.words.proofs.Tests.{test_passed, test_failed}
 use Rattle.words.proofs.Papers.{by_next, by-refused, on-success, on-refused}
-use Rattle.words.proofs.Buffers.{room-full, room_fits, room-refused, answered_refused, answered_success}
+use Rattle.words.proofs.Buffers.{room_full, room_fits, room_refused, answered_refused, answered_success}
 use Rattle.writing.specs.Writing.{with_bytes}
 use Rattle.writing.proofs.Writing.{with_front}
 use Rattle.sub_key_walk.specs.Trace.{walk_from}
@@ -95,7 +95,7 @@ module _ (s : List ℕ) (key : KeyNode) (budget : ℕ) (old : List ℕ) (w : Wal
   pub write_refused : {g : WalkRefusal} → w ≡ walk.Refused g → (r : WriteAnswer) → write_paper r ≡ refused (walk_told g) → WriteAnswered s key budget old r old
   write_refused {g} q r e =
       answered_refused e
-      (given (ap walk_paper q) ∙ ap (in_room full_listing (length old)) (on-refused written_of refl) ∙ room-refused full_listing (length old) (walk_told g))
+      (given (ap walk_paper q) ∙ ap (in_room full_listing (length old)) (on-refused written_of refl) ∙ room_refused full_listing (length old) (walk_told g))
 
   module _ {c : Counts} (q : w ≡ walk.Read c) {whole : Written} (d : whole ≡ written_of c) where
     here : writing_of s key budget (length old) ≡ in_room full_listing (length old) (success whole)
@@ -103,7 +103,7 @@ module _ (s : List ℕ) (key : KeyNode) (budget : ℕ) (old : List ℕ) (w : Wal
         given (ap walk_paper q) ∙ ap (in_room full_listing (length old)) (on-success written_of refl) ∙ ap (λ (v : Written). in_room full_listing (length old) (success v)) (sym d)
 
     pub write_full : length old < whole.bytes → (r : WriteAnswer) → write_paper r ≡ refused (full_listing whole) → WriteAnswered s key budget old r old
-    write_full h r e = answered_refused e (here ∙ room-full full_listing (length old) whole h)
+    write_full h r e = answered_refused e (here ∙ room_full full_listing (length old) whole h)
 
     pub kept_of : c.kept ≡ length (offsets_of s key)
     kept_of = kept_number s key budget c (sym k ∙ ap walk_paper q)

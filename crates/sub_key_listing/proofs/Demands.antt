@@ -13,7 +13,7 @@ use Rattle.words.proofs.Tests.{test_false}
 use Rattle.words.proofs.Every.{Every, every_success, every_refused, every_cond, every_by}
 use Rattle.words.proofs.Papers.{success-refused, refused-success, same-success, same-told, by_next, by-refused, by_success_of, on-success, on-refused, on_success_of}
 use Rattle.words.specs.Buffers.{in_room}
-use Rattle.words.proofs.Buffers.{room-full, room_fits, room-refused, room-success, untouched, filled}
+use Rattle.words.proofs.Buffers.{room_full, room_fits, room_refused, room_success, untouched, filled}
 use Rattle.sub_key_walk.specs.declared.Counts.{Counts}
 use Rattle.sub_key_walk.specs.declared.WalkAnswer.{WalkAnswer}
 use Rattle.sub_key_walk.specs.declared.WalkAnswer.TheVariants as walk
@@ -54,7 +54,7 @@ pub the_walks : (s : List ℕ) (key : KeyNode) → TheWalks s key
 the_walks s key budget old new v t x e =
     let q = ap walk_paper e in
     let m = behind-success s key _ (sym x.answer ∙ q) in
-    let f = room-success full_of (length old) (measured s key.base key.number_of_sub_keys key.sub_keys_list_offset_relative budget) t m in
+    let f = room_success full_of (length old) (measured s key.base key.number_of_sub_keys key.sub_keys_list_offset_relative budget) t m in
     ap (take t.kept) (filled x q) ∙ take_at (offsets_of s key) (drop (length (offsets_of s key)) old) t.kept (sym (kept_counted s key budget t f.0))
 
 -- ---- checking
@@ -158,7 +158,7 @@ module _ (s : List ℕ) (bytes : Bytes s) (key : KeyNode) (budget : ℕ) (w : Wa
     -- a success is one of the walk, and fits
     success_of : (v : Written) → r ≡ write.Written v → (t : Counts) × (measured_of s key budget ≡ success t) × (written_of t ≡ v)
     success_of v e =
-        on_success_of written_of (measured_of s key budget) (room-success full_listing (length old) (on_success written_of (measured_of s key budget)) v (sym x.answer ∙ ap write_paper e)).0
+        on_success_of written_of (measured_of s key budget) (room_success full_listing (length old) (on_success written_of (measured_of s key budget)) v (sym x.answer ∙ ap write_paper e)).0
 
     whole_length : (v : Written) → r ≡ write.Written v → v.bytes ≡ length (right_listing s key)
     whole_length v e =
@@ -173,8 +173,8 @@ module _ (s : List ℕ) (bytes : Bytes s) (key : KeyNode) (budget : ℕ) (w : Wa
     pub wrote : Wrote s key budget old w r new
     wrote = record {
       walk_refused = λ f e.
-          x.answer ∙ ap (in_room full_listing (length old)) (on-refused written_of (sym k ∙ ap walk_paper e)) ∙ room-refused full_listing (length old) (walk_told f);
-      no_room = λ t e h. x.answer ∙ right_is t e ∙ room-full full_listing (length old) (written_of t) h;
+          x.answer ∙ ap (in_room full_listing (length old)) (on-refused written_of (sym k ∙ ap walk_paper e)) ∙ room_refused full_listing (length old) (walk_told f);
+      no_room = λ t e h. x.answer ∙ right_is t e ∙ room_full full_listing (length old) (written_of t) h;
       room = λ t e h. write_injective r (write.Written (written_of t)) (x.answer ∙ right_is t e ∙ room_fits full_listing (length old) (written_of t) h);
       untouched = λ f e. untouched x (ap write_paper e);
       written = λ v e. (whole_length v e, whole_buffer v e ∙ ap (λ (n : ℕ). right_listing s key ++ drop n old) (sym (whole_length v e)));

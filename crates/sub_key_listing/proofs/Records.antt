@@ -7,7 +7,7 @@ use native.Mathlib.Omega.{arith}
 use lib.ListN.{length, length-append}
 use lib.Seq.{sets}
 use Rattle.writing.specs.Writing.{bytes_of, with_bytes, PutAt}
-use Rattle.writing.proofs.Writing.{bytes-length, with_none, with_sets, put-after}
+use Rattle.writing.proofs.Writing.{bytes_length, with_none, with_sets, put-after}
 use Rattle.sub_key_list.specs.Leaves.{keep}
 use Rattle.sub_key_list.proofs.Leaves.{keep_kept, keep_dropped}
 use Rattle.sub_key_walk.specs.Walk.{Filled}
@@ -25,12 +25,12 @@ module _ (old : List ℕ) (at size kind : ℕ) (h : at + 6 ≤ length old) {q r 
   front = bytes_of 4 size ++ bytes_of 2 kind
 
   pub front_length : length front ≡ 6
-  front_length = omega (arith, length-append (bytes_of 4 size) (bytes_of 2 kind), bytes-length 4 size, bytes-length 2 kind)
+  front_length = omega (arith, length-append (bytes_of 4 size) (bytes_of 2 kind), bytes_length 4 size, bytes_length 2 kind)
 
   pub front-put : two ≡ with_bytes old at front
   front-put =
       let u = put-after old at [] x (sym (with_none old at)) (omega arith) (omega arith) in
-      put-after old at (bytes_of 4 size) y u (omega (arith, bytes-length 4 size)) (omega (arith, bytes-length 4 size))
+      put-after old at (bytes_of 4 size) y u (omega (arith, bytes_length 4 size)) (omega (arith, bytes_length 4 size))
 
 pub plain-put : (old : List ℕ) (at kind v : ℕ) → at + 10 ≤ length old → {q r t : Bool} {one two new : List ℕ}
     → PutAt 4 6 at old q one → PutAt 2 kind (at + 4) one r two → PutAt 4 v (at + 6) two t new → new ≡ with_bytes old at (plain kind v)
@@ -39,7 +39,7 @@ plain-put old at kind v h x y z =
     put-after old at (bytes_of 4 6 ++ bytes_of 2 kind) z (front-put old at 6 kind (omega arith) x y) (omega arith) (omega arith)
     ∙ ap (with_bytes old at)
     (append_assoc (bytes_of 4 6) (bytes_of 2 kind) (bytes_of 4 v)
-    ∙ ap (λ (n : ℕ). bytes_of 4 (2 + n) ++ (bytes_of 2 kind ++ bytes_of 4 v)) (sym (bytes-length 4 v)))
+    ∙ ap (λ (n : ℕ). bytes_of 4 (2 + n) ++ (bytes_of 2 kind ++ bytes_of 4 v)) (sym (bytes_length 4 v)))
 
 pub opening-put : (old : List ℕ) (base position : ℕ) → 18 ≤ length old → {q r t u : Bool} {one two three new : List ℕ}
     → PutAt 4 14 0 old q one → PutAt 2 OPENS 4 one r two → PutAt 4 base 6 two t three → PutAt 8 position 10 three u new
@@ -47,8 +47,8 @@ pub opening-put : (old : List ℕ) (base position : ℕ) → 18 ≤ length old �
 opening-put old base position h x y z w =
     let l = front_length old 0 14 OPENS (omega arith) x y in
     let k : List ℕ = bytes_of 4 14 ++ bytes_of 2 OPENS in
-    let c : length (bytes_of 4 base ++ bytes_of 8 position) ≡ 12 = omega (arith, length-append (bytes_of 4 base) (bytes_of 8 position), bytes-length 4 base, bytes-length 8 position) in
-    let m : length (k ++ bytes_of 4 base) ≡ 10 = omega (arith, length-append k (bytes_of 4 base), bytes-length 4 base) in
+    let c : length (bytes_of 4 base ++ bytes_of 8 position) ≡ 12 = omega (arith, length-append (bytes_of 4 base) (bytes_of 8 position), bytes_length 4 base, bytes_length 8 position) in
+    let m : length (k ++ bytes_of 4 base) ≡ 10 = omega (arith, length-append k (bytes_of 4 base), bytes_length 4 base) in
     let three-is = put-after old 0 k z (front-put old 0 14 OPENS (omega arith) x y) (omega arith) (omega arith) in
     put-after old 0 (k ++ bytes_of 4 base) w three-is (omega arith) (omega arith)
     ∙ ap (with_bytes old 0)

@@ -13,7 +13,7 @@ use Rattle.words.specs.Words.{little, word16, word32}
 use Rattle.words.proofs.Little.{Bytes, little-drop}
 use Rattle.words.proofs.Tests.{both, both_are}
 use Rattle.writing.specs.Writing.{bytes_of}
-use Rattle.writing.proofs.Writing.{bytes-length, bytes_there, row_read}
+use Rattle.writing.proofs.Writing.{bytes_length, bytes_there, row_read}
 use Rattle.sub_key_listing.specs.Listing.{NAMES, house, plain, named, same, offsets_in}
 use Rattle.sub_key_listing.specs.Steps.{begins, all_named}
 
@@ -49,12 +49,12 @@ house-length kind content =
       arith,
       length-append (bytes_of 4 (2 + length content)) (bytes_of 2 kind ++ content),
       length-append (bytes_of 2 kind) content,
-      bytes-length 4 (2 + length content),
-      bytes-length 2 kind,
+      bytes_length 4 (2 + length content),
+      bytes_length 2 kind,
     )
 
 pub plain-length : (kind x : ℕ) → length (plain kind x) ≡ 10
-plain-length kind x = omega (arith, house-length kind (bytes_of 4 x), bytes-length 4 x)
+plain-length kind x = omega (arith, house-length kind (bytes_of 4 x), bytes_length 4 x)
 
 pub named-length : (os : List ℕ) → length (named os) ≡ 10 * length os
 unfolding named
@@ -104,7 +104,7 @@ module _ (b : List ℕ) (w : Bytes b) where
   pub plain-begun : (at kind : ℕ) → begins b at 6 kind ≡ true → at + 10 ≤ length b → drop at b ≡ plain kind (word32 b (at + 6)) ++ drop (at + 10) b
   plain-begun at kind t h =
       begun at 6 kind t (omega arith)
-      ∙ (λ i. bytes_of 4 (2 + sym (bytes-length 4 (word32 b (at + 6))) i) ++ (bytes_of 2 kind ++ peel 4 (at + 6) (omega arith) i))
+      ∙ (λ i. bytes_of 4 (2 + sym (bytes_length 4 (word32 b (at + 6))) i) ++ (bytes_of 2 kind ++ peel 4 (at + 6) (omega arith) i))
       ∙ (λ i. bytes_of 4 (2 + length (bytes_of 4 (word32 b (at + 6)))) ++ (bytes_of 2 kind ++ (bytes_of 4 (word32 b (at + 6)) ++ drop (add_assoc at 6 4 i) b)))
       ∙ sym (house-front kind (bytes_of 4 (word32 b (at + 6))) (drop (at + 10) b))
 
@@ -126,7 +126,7 @@ module _ (b : List ℕ) (n at x : ℕ) (rest : List ℕ) (e : drop at b ≡ byte
   front-word = ap (little n b) (sym (add-zero at)) ∙ sym (little-drop n at b 0) ∙ ap (λ (r : List ℕ). little n r 0) e ∙ row_read [] rest n x
 
   pub front_rest : drop (at + n) b ≡ rest
-  front_rest = sym (drop-drop n at b) ∙ ap (drop n) e ∙ drop_at (bytes_of n x) rest n (bytes-length n x)
+  front_rest = sym (drop-drop n at b) ∙ ap (drop n) e ∙ drop_at (bytes_of n x) rest n (bytes_length n x)
 
 -- with a record: its length and its kind are read, and its content is behind them
 module _ (b : List ℕ) (at kind : ℕ) (content : List ℕ) (rest : List ℕ) (e : drop at b ≡ house kind content ++ rest) where
@@ -147,7 +147,7 @@ module _ (b : List ℕ) (at kind : ℕ) (content : List ℕ) (rest : List ℕ) (
 
 module _ (b : List ℕ) (at kind x : ℕ) (rest : List ℕ) (e : drop at b ≡ plain kind x ++ rest) where
   pub plain-begins : kind < 65536 → begins b at 6 kind ≡ true
-  plain-begins k = house-begins b at kind (bytes_of 4 x) rest e 6 (ap (λ (n : ℕ). 2 + n) (bytes-length 4 x)) (omega arith) k
+  plain-begins k = house-begins b at kind (bytes_of 4 x) rest e 6 (ap (λ (n : ℕ). 2 + n) (bytes_length 4 x)) (omega arith) k
 
   pub plain_word : word32 b (at + 6) ≡ x % 4294967296
   plain_word = front-word b 4 (at + 6) x rest (house_content b at kind (bytes_of 4 x) rest e)

@@ -13,7 +13,7 @@ use Rattle.words.specs.Words.{word32, word64}
 use Rattle.words.proofs.Little.{Bytes, little_lt}
 use Rattle.words.proofs.Tests.{both, both_are, test_same, test_false}
 use Rattle.writing.specs.Writing.{bytes_of}
-use Rattle.writing.proofs.Writing.{bytes-length, bytes_lt}
+use Rattle.writing.proofs.Writing.{bytes_length, bytes_lt}
 use Rattle.sub_key_listing.specs.Listing.{OPENS, NAMES, CLOSES, house, opening, plain, named, listing_of, Wellformed, same, listing_size, number_in, offsets_in, made_of, wellformed}
 use Rattle.sub_key_listing.specs.Steps.{begins, all_named, closes, framed}
 use Rattle.sub_key_listing.specs.Demands.{Injective}
@@ -23,7 +23,7 @@ use Rattle.sub_key_listing.proofs.Rows.{below-append, same_true, same_is, house-
 
 pub opening-length : (base position : ℕ) → length (opening base position) ≡ 18
 opening-length base position =
-    omega (arith, house-length OPENS (bytes_of 4 base ++ bytes_of 8 position), length-append (bytes_of 4 base) (bytes_of 8 position), bytes-length 4 base, bytes-length 8 position)
+    omega (arith, house-length OPENS (bytes_of 4 base ++ bytes_of 8 position), length-append (bytes_of 4 base) (bytes_of 8 position), bytes_length 4 base, bytes_length 8 position)
 
 pub listing_length : (base position : ℕ) (os : List ℕ) → length (listing_of base position os) ≡ listing_size (length os)
 unfolding listing_of
@@ -59,7 +59,7 @@ module _ (b : List ℕ) (w : Bytes b) (n : ℕ) (l : length b ≡ listing_size n
   content = bytes_of 4 (word32 b 6) ++ bytes_of 8 (word64 b 10)
 
   content_length : 14 ≡ 2 + length content
-  content_length = omega (arith, length-append (bytes_of 4 (word32 b 6)) (bytes_of 8 (word64 b 10)), bytes-length 4 (word32 b 6), bytes-length 8 (word64 b 10))
+  content_length = omega (arith, length-append (bytes_of 4 (word32 b 6)) (bytes_of 8 (word64 b 10)), bytes_length 4 (word32 b 6), bytes_length 8 (word64 b 10))
 
   opened : b ≡ opening (word32 b 6) (word64 b 10) ++ drop 18 b
   opened =
@@ -95,7 +95,7 @@ module _ (b : List ℕ) (base position : ℕ) (os : List ℕ) (e : b ≡ listing
   held = bytes_of 4 base ++ bytes_of 8 position
 
   held-length : 2 + length held ≡ 14
-  held-length = omega (arith, length-append (bytes_of 4 base) (bytes_of 8 position), bytes-length 4 base, bytes-length 8 position)
+  held-length = omega (arith, length-append (bytes_of 4 base) (bytes_of 8 position), bytes_length 4 base, bytes_length 8 position)
 
   whole : drop 0 b ≡ house OPENS held ++ behind
   unfolding listing_of
@@ -224,19 +224,19 @@ listings_injective base base' position position' os os' b b' p p' f f' e =
 
 -- ---- every element of a listing is a byte
 
-house-bytes : (kind : ℕ) (content : List ℕ) → Bytes content → Bytes (house kind content)
-house-bytes kind content f =
+house_bytes : (kind : ℕ) (content : List ℕ) → Bytes content → Bytes (house kind content)
+house_bytes kind content f =
     below-append 256 (bytes_of 4 (2 + length content)) (bytes_of 2 kind ++ content) (bytes_lt 4 (2 + length content))
     (below-append 256 (bytes_of 2 kind) content (bytes_lt 2 kind) f)
 
-named-bytes : (os : List ℕ) → Bytes (named os)
+named_bytes : (os : List ℕ) → Bytes (named os)
 unfolding named
-named-bytes [] i = omega arith
-named-bytes (o ∷ os) i = below-append 256 (plain NAMES o) (named os) (house-bytes NAMES (bytes_of 4 o) (bytes_lt 4 o)) (named-bytes os) i
+named_bytes [] i = omega arith
+named_bytes (o ∷ os) i = below-append 256 (plain NAMES o) (named os) (house_bytes NAMES (bytes_of 4 o) (bytes_lt 4 o)) (named_bytes os) i
 
 pub listing_bytes : (base position : ℕ) (os : List ℕ) → Bytes (listing_of base position os)
 unfolding listing_of
 listing_bytes base position os =
     below-append 256 (opening base position) (named os ++ plain CLOSES (length os))
-    (house-bytes OPENS (bytes_of 4 base ++ bytes_of 8 position) (below-append 256 (bytes_of 4 base) (bytes_of 8 position) (bytes_lt 4 base) (bytes_lt 8 position)))
-    (below-append 256 (named os) (plain CLOSES (length os)) (named-bytes os) (house-bytes CLOSES (bytes_of 4 (length os)) (bytes_lt 4 (length os))))
+    (house_bytes OPENS (bytes_of 4 base ++ bytes_of 8 position) (below-append 256 (bytes_of 4 base) (bytes_of 8 position) (bytes_lt 4 base) (bytes_lt 8 position)))
+    (below-append 256 (named os) (plain CLOSES (length os)) (named_bytes os) (house_bytes CLOSES (bytes_of 4 (length os)) (bytes_lt 4 (length os))))

@@ -14,7 +14,7 @@ use Rattle.words.specs.Paper.{Paper, success, refused, by, no_room_told, on_succ
 use Rattle.words.specs.Buffers.{in_room}
 use Rattle.words.specs.declared.Refusal.{Refusal}
 use Rattle.words.proofs.Papers.{success-refused, same-success}
-use Rattle.words.proofs.Buffers.{room-full, room_fits, room-refused, answered_refused, answered_success}
+use Rattle.words.proofs.Buffers.{room_full, room_fits, room_refused, answered_refused, answered_success}
 use Rattle.sub_key_list.specs.Lists.{Listed, list_at, list_paper}
 use Rattle.sub_key_list.specs.Leaves.{leaf_of, leaf_kept, only_leaf}
 use Rattle.sub_key_list.specs.declared.LeafList.{LeafList}
@@ -118,11 +118,11 @@ module _ (s : List ℕ) (base count list budget : ℕ) (old : List ℕ) (w : Wal
   given e = ap (in_room full_of (length old)) (sym k ∙ e)
 
   pub walk_refused : {f : WalkRefusal} → w ≡ Refused f → WalkAnswered s base count list budget old (Refused f) old
-  walk_refused {f} q = answered_refused refl (given (ap walk_paper q) ∙ room-refused full_of (length old) (walk_told f))
+  walk_refused {f} q = answered_refused refl (given (ap walk_paper q) ∙ room_refused full_of (length old) (walk_told f))
 
   module _ {t : Counts} (q : w ≡ Read t) where
     pub walk_full : length old < t.kept → {f : WalkRefusal} → walk_told f ≡ no_room_told t.lists t.kept t.entries t.dropped → WalkAnswered s base count list budget old (Refused f) old
-    walk_full h e = answered_refused (ap refused e) (given (ap walk_paper q) ∙ room-full full_of (length old) t h)
+    walk_full h e = answered_refused (ap refused e) (given (ap walk_paper q) ∙ room_full full_of (length old) t h)
 
     -- what is counted, of the lists reached
     kept_number : t.kept ≡ length (kept_by s base count list)
@@ -182,8 +182,8 @@ module _ (s : List ℕ) (base p : ℕ) (old : List ℕ) where
     unfolding on_success only_leaf
     here = rw (← e) (ap (λ (c : LeafRead). in_room full_leaf (length old) (success c)) (sym d))
 
-    pub leaf-full : length old < t.kept → {f : WalkRefusal} → walk_told f ≡ no_room_told 0 t.kept t.entries t.dropped → LeafAnswered s base p old (leaf.Refused f) old
-    leaf-full h q = answered_refused (ap refused q) (here ∙ room-full full_leaf (length old) t h)
+    pub leaf_full : length old < t.kept → {f : WalkRefusal} → walk_told f ≡ no_room_told 0 t.kept t.entries t.dropped → LeafAnswered s base p old (leaf.Refused f) old
+    leaf_full h q = answered_refused (ap refused q) (here ∙ room_full full_leaf (length old) t h)
 
     module _ (h : t.kept ≤ length old) where
       pub leaf_roomy : 0 + length row ≤ length old

@@ -10,7 +10,7 @@ use lib.ListN.{length, drop}
 use Rattle.words.specs.Paper.{Paper, success, refused}
 use Rattle.words.specs.Buffers.{in_room}
 use Rattle.words.proofs.Papers.{same-success}
-use Rattle.words.proofs.Buffers.{room_fits, room-success, untouched, filled}
+use Rattle.words.proofs.Buffers.{room_fits, room_success, untouched, filled}
 use Rattle.sub_key_walk.specs.Trace.{Event, walk_from, kept_of, lists_of, entries_of}
 use Rattle.sub_key_walk.specs.Judge.{judge}
 use Rattle.sub_key_walk.specs.Answers.{BUDGET_LIMIT, COUNT_LIMIT, none, from_record, measured, full_of, answer_of, walk_paper, WalkAnswered}
@@ -79,7 +79,7 @@ module _ (s : List ℕ) (base count list budget room : ℕ) (d : Started count b
 
   pub succeeds_only : (t : Counts) → answer_of s base count list budget room ≡ success t → Why t
   succeeds_only t q =
-      let w = room-success full_of room (judge budget none reached) t (ap (in_room full_of room) (sym (measured_walk count budget reached d)) ∙ q) in
+      let w = room_success full_of room (judge budget none reached) t (ap (in_room full_of room) (sym (measured_walk count budget reached d)) ∙ q) in
       let g = all_judge budget none reached t (omega arith) w.0 in
       let b : 0 + lists_of reached ≤ budget = g.1 in
       let c : t ≡ counts_of reached = same-success (sym w.0 ∙ judge_all budget none reached g.0 g.1) ∙ tally_counts reached in
@@ -109,8 +109,8 @@ module _ (s : List ℕ) (base count list budget : ℕ) (old : List ℕ) (r : Wal
   pub answer_lists : lists_by (walk_paper r) ≡ lists_read s base count list budget
   answer_lists = ap lists_by x.answer ∙ lists_reported s base count list budget (length old)
 
-  pub refusal-untouched : (f : WalkRefusal) → r ≡ Refused f → new ≡ old
-  refusal-untouched f q = untouched x (ap walk_paper q)
+  pub refusal_untouched : (f : WalkRefusal) → r ≡ Refused f → new ≡ old
+  refusal_untouched f q = untouched x (ap walk_paper q)
 
 pub demand_3 : (s : List ℕ) (base count list budget : ℕ) (old : List ℕ) (r : WalkAnswer) (new : List ℕ)
     → WalkAnswered s base count list budget old r new → 1 ≤ count → count ≤ COUNT_LIMIT → budget ≤ BUDGET_LIMIT → Demand3 s base count list budget old r new
@@ -121,7 +121,7 @@ demand_3 s base count list budget old r new x some few small = record {
   few = λ y f. rw (read_paper y.is) (lists_few s base count list budget (length old) d y.counts (answer y) f);
   counts = λ t q. (why (record { counts = t; is = q })).counts;
   filled = λ y. filled x (read_paper y.is) ∙ ap (λ (es : List Event). kept_of es ++ drop (length (kept_of es)) old) (reached_walk count (walk_from s base list) d.some);
-  untouched = λ f q. refusal-untouched s base count list budget old r new x f q;
+  untouched = λ f q. refusal_untouched s base count list budget old r new x f q;
 }
   where
     d : Started count budget

@@ -13,7 +13,7 @@ use Rattle.words.specs.Paper.{Told, Paper, success, refused, on_success}
 use Rattle.words.specs.Buffers.{in_room}
 use Rattle.words.proofs.Papers.{refused-success, same-success, on_success_of}
 use Rattle.words.proofs.Plain.{Plain, Plainly, plainly_success, plainly_refused, plainly_by, plainly_on}
-use Rattle.words.proofs.Buffers.{room-success, full_of_lem, other_of}
+use Rattle.words.proofs.Buffers.{room_success, full_of_lem, other_of}
 use Rattle.sub_key_list.specs.Lists.{Listed, list_at}
 use Rattle.sub_key_list.specs.Lists as lists
 use Rattle.sub_key_list.specs.Leaves.{Leaf, leaf_dropped, only_leaf, leaf_at}
@@ -91,7 +91,7 @@ module _ {A : Type 0} (full : A → Told) (d : ℕ) (a : Paper A) (plain : Plain
 
   room_drops : ((v : A) → (full v).number ≡ NO_ROOM) → (room : ℕ) → Drops full d (in_room full room a)
   room_drops f room = record {
-    read = λ v e. sums v (room-success full room a v e).0;
+    read = λ v e. sums v (room_success full room a v e).0;
     no_room = λ t e n. let w = full_of_lem full room a plain e n in subst (λ (u : Told). Sums u d) w.2 (sums w.0 w.1);
     other = λ t e o. (plain t (other_of full room a f e o)).dropped;
   }

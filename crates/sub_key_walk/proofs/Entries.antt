@@ -72,8 +72,8 @@ module _ (s : List ℕ) (base size n first : ℕ) (old : List ℕ) (place : ℕ)
 
     -- `k` entries more
     module _ (k : ℕ) (h : i + k ≤ n) where
-      pub piece-room : to + length (leaf_kept s base size k at) ≤ length out
-      piece-room =
+      pub piece_room : to + length (leaf_kept s base size k at) ≤ length out
+      piece_room =
           let r = piece_ready (numbers (length old)) s base size n first (old, place) (out, to) at i f k h in
           let m = r.1 in
           omega (arith, r.0)
@@ -118,7 +118,7 @@ module _ (s : List ℕ) (base size n first : ℕ) (old : List ℕ) (place : ℕ)
     pieces_there = piece_there (numbers (length old)) s base size n first (old, place) (out, to) at (n - left) f.filling k within w.word
 
     pub pieces_room : to + length (leaf_kept s base size k at) ≤ length out
-    pieces_room = piece-room s base size n first old place out at to (n - left) f.filling k within
+    pieces_room = piece_room s base size n first old place out at to (n - left) f.filling k within
 
     pub pieces_next : {new : List ℕ} {r : ℕ} → Filled (leaf_kept s base size k at) out to r new → Piecewise s base size n first old place new (at + size * k) r (left - k)
     pieces_next {new} {r} p =

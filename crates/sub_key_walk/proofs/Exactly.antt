@@ -13,7 +13,7 @@ use Rattle.words.specs.Words.{word32}
 use Rattle.words.specs.Paper.{Paper, success, refused}
 use Rattle.words.specs.Buffers.{in_room}
 use Rattle.words.proofs.Papers.{success-refused}
-use Rattle.words.proofs.Buffers.{room-success}
+use Rattle.words.proofs.Buffers.{room_success}
 use Rattle.sub_key_list.specs.Lists.{Listed, list_at}
 use Rattle.sub_key_list.specs.Lists as lists
 use Rattle.sub_key_list.specs.Strict.{strict_at}
@@ -176,4 +176,4 @@ module _ (s : List ℕ) (base count list budget minor : ℕ) (some : count ≡ 0
   pub sub_keys_exactly : (old : List ℕ) (r : WalkAnswer) (new : List ℕ) (o : WalkAnswer) (made : List ℕ)
       → StrictAnswered s base count list budget minor old r new → WalkAnswered s base count list budget old o made → Exactly s base list minor r o
   sub_keys_exactly old r new o made x y =
-      succeeds_exactly (in_room full_of (length old)) (λ a t e. (room-success full_of (length old) a t e).0) r o x.answer y.answer
+      succeeds_exactly (in_room full_of (length old)) (λ a t e. (room_success full_of (length old) a t e).0) r o x.answer y.answer

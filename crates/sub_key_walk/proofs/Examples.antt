@@ -17,12 +17,12 @@ use Rattle.sub_key_walk.specs.StrictExamples.{StrictExamples}
 pub examples : Examples
 unfolding little entry_size of_kind list_at keep leaf_kept drop_one leaf_dropped only_leaf each below trace kept_in kept_of lists_in entries_in dropped_in counted in_budget one after judge on_success in_room from_record reached_for buffer_after
 examples = record {
-  li-list = refl;
+  li_list = refl;
   empty_list = refl;
   cut_list = refl;
   unknown_list = refl;
-  lh-list = refl;
-  ri-list = refl;
+  lh_list = refl;
+  ri_list = refl;
   li_answer = refl;
   li_kept = refl;
   li_buffer = refl;
@@ -36,7 +36,7 @@ examples = record {
   spent_answer = refl;
   full_answer = refl;
   leaf_answer = refl;
-  leaf-full = refl;
+  leaf_full = refl;
 }
 
 pub strict_examples : StrictExamples
@@ -48,20 +48,20 @@ strict_examples = record {
   lh_5 = refl;
   li_0 = refl;
   ri_0 = refl;
-  ri-named = refl;
-  li-named = refl;
+  ri_named = refl;
+  li_named = refl;
   empty_8 = refl;
   empty_7 = refl;
-  one-short = refl;
-  past-image = refl;
+  one_short = refl;
+  past_image = refl;
   one_more = refl;
   size_0 = refl;
   is_free = refl;
-  size-least = refl;
+  size_least = refl;
   list_first = refl;
   kind_second = refl;
   size_last = refl;
-  at-list = refl;
+  at_list = refl;
   walk = refl;
   walk_kept = refl;
   walk_buffer = refl;
@@ -72,9 +72,9 @@ strict_examples = record {
   itself = refl;
   itself_ordinary = refl;
   itself_spent = refl;
-  free-ordinary = refl;
+  free_ordinary = refl;
   leaf_3 = refl;
   leaf_2 = refl;
-  leaf-full = refl;
-  leaf-ri = refl;
+  leaf_full = refl;
+  leaf_ri = refl;
 }

@@ -146,8 +146,8 @@ module _ (hd : ℕ → ℕ → Paper Listed) (levels : ℕ) (s : List ℕ) (base
     unfolding below total dropped_in
     dropped_index = rw (trace_in hd levels s base offset h, e) (omega arith)
 
-    pub index-room : {whole : Bool} {old : List ℕ} {place : ℕ} → Roomy (trace hd levels s base offset) whole old place → Roomy inner whole old place
-    index-room {old = old} {place = place} v = record {
+    pub index_room : {whole : Bool} {old : List ℕ} {place : ℕ} → Roomy (trace hd levels s base offset) whole old place → Roomy inner whole old place
+    index_room {old = old} {place = place} v = record {
       room = (ready_as (numbers (length old)) {x = (old, place)} (kept_index hd levels s base offset h e) (refl, v.room)).1;
       all = λ q. sym dropped_index ∙ v.all q;
     }

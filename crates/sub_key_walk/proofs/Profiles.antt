@@ -15,7 +15,7 @@ use Rattle.words.specs.Refusals.{BAD_SIZE, TOO_MANY, BAD_BUDGET, TOO_DEEP, OUT_O
 use Rattle.words.specs.Buffers.{in_room, buffer_after, Answered}
 use Rattle.words.specs.Paper.{Told, Paper, success, refused, by, on_success}
 use Rattle.words.proofs.Papers.{success-refused, same-told}
-use Rattle.words.proofs.Buffers.{room-refused, room-success, other_of, answered_refused, untouched}
+use Rattle.words.proofs.Buffers.{room_refused, room_success, other_of, answered_refused, untouched}
 use Rattle.sub_key_list.specs.Lists.{Listed, list_at}
 use Rattle.sub_key_list.specs.Lists as lists
 use Rattle.sub_key_list.specs.Leaves.{leaf_of, only_leaf, leaf_at}
@@ -337,9 +337,9 @@ module _ (s : List ℕ) (base count list budget minor : ℕ) where
   pub sub_keys_profiles : (old : List ℕ) (r : WalkAnswer) (new : List ℕ) (o : WalkAnswer) (made : List ℕ)
       → StrictAnswered s base count list budget minor old r new → WalkAnswered s base count list budget old o made → SubKeys budget old r new o made
   sub_keys_profiles old r new o made x y = record {
-    answers = walks (in_room full_of (length old)) (room-refused full_of (length old)) (λ a t e n. other_of full_of (length old) a (λ v. refl) e (λ m. omega arith)) r o x.answer y.answer;
+    answers = walks (in_room full_of (length old)) (room_refused full_of (length old)) (λ a t e n. other_of full_of (length old) a (λ v. refl) e (λ m. omega arith)) r o x.answer y.answer;
     buffer = λ t q.
-        let w = (room-success full_of (length old) strictly t (sym x.answer ∙ ap walk_paper q)).0 in
+        let w = (room_success full_of (length old) strictly t (sym x.answer ∙ ap walk_paper q)).0 in
         let e = accepted_same t w in
         y.buffer ∙ ap (λ (a : Paper Counts). buffer_after (in_room full_of (length old) a) (kept_by s base count list) old) (sym e.0)
         ∙ ap (λ (es : List Event). buffer_after (in_room full_of (length old) strictly) (kept_of es) old) (sym e.1) ∙ sym x.buffer;
@@ -349,7 +349,7 @@ module _ (s : List ℕ) (base count list budget minor : ℕ) where
 -- what `strict_sub_keys` promises, from what it counts
 module _ (s : List ℕ) (base count list budget minor : ℕ) (old : List ℕ) {w : WalkAnswer} (k : walk_paper w ≡ strict_measured s base count list budget minor) where
   pub strict-refused : {f : WalkRefusal} → w ≡ Refused f → StrictAnswered s base count list budget minor old (Refused f) old
-  strict-refused {f} q = answered_refused refl (ap (in_room full_of (length old)) (sym k ∙ ap walk_paper q) ∙ room-refused full_of (length old) (walk_told f))
+  strict-refused {f} q = answered_refused refl (ap (in_room full_of (length old)) (sym k ∙ ap walk_paper q) ∙ room_refused full_of (length old) (walk_told f))
 
   -- what is accepted is counted as in the ordinary way
   pub accepted_counts : {t : Counts} → w ≡ Read t → walk_paper w ≡ measured s base count list budget

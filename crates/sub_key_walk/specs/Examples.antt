@@ -37,12 +37,12 @@ ri = list 114 105 1 (0 ∷ 0 ∷ 0 ∷ 0 ∷ [])
 
 pub record Examples : Type 0 where
   -- one list
-  pub li-list : list_at li 0 ≡ success (lists.leaf LI 4 2)
+  pub li_list : list_at li 0 ≡ success (lists.leaf LI 4 2)
   pub empty_list : list_at li_empty 0 ≡ success (lists.leaf LI 4 0)
   pub cut_list : list_at (take 7 li) 0 ≡ refused (by CUT_SHORT 0)
   pub unknown_list : list_at lx 0 ≡ refused (by BAD_SIGN 0)
-  pub lh-list : list_at lh 16 ≡ success (lists.leaf LH 8 2)
-  pub ri-list : list_at ri 0 ≡ success (lists.index 1)
+  pub lh_list : list_at lh 16 ≡ success (lists.leaf LH 8 2)
+  pub ri_list : list_at ri 0 ≡ success (lists.index 1)
   -- the walk
   pub li_answer : answer_of li 0 2 0 1024 4096 ≡ success (counts 2 1 2 0)
   pub li_kept : kept_by li 0 2 0 ≡ 16 ∷ 32 ∷ []
@@ -58,4 +58,4 @@ pub record Examples : Type 0 where
   -- document 02, order 2: the `lh` list drops 1 of its 2 entries, and NO ROOM tells so too, of the walk and of the leaf list alone
   pub full_answer : answer_of lh 16 2 0 1024 0 ≡ refused (no_room_told 1 1 2 1)
   pub leaf_answer : leaf_answer_of lh 16 16 1 ≡ success (record { kept = 1; entries = 2; dropped = 1 })
-  pub leaf-full : leaf_answer_of lh 16 16 0 ≡ refused (no_room_told 0 1 2 1)
+  pub leaf_full : leaf_answer_of lh 16 16 0 ≡ refused (no_room_told 0 1 2 1)

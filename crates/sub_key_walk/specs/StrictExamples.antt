@@ -67,8 +67,8 @@ abbrev pub ri_over : List ℕ → List ℕ
 ri_over below = minus 244 (kinds 114 105 1 (12 ∷ 0 ∷ 0 ∷ 0 ∷ below))
 
 -- a free `lf` list, and one whose second entry passes the image
-abbrev pub lf-free : List ℕ
-lf-free = 16 ∷ 0 ∷ 0 ∷ 0 ∷ kinds 108 102 1 pair
+abbrev pub lf_free : List ℕ
+lf_free = 16 ∷ 0 ∷ 0 ∷ 0 ∷ kinds 108 102 1 pair
 
 abbrev pub lf_cut : List ℕ
 lf_cut = minus 240 (kinds 108 102 2 pair)
@@ -82,22 +82,22 @@ pub record StrictExamples : Type 0 where
   pub li_0 : strict_at li 0 false 0 ≡ success (leaf LI 4 1)
   pub ri_0 : strict_at ri 0 false 0 ≡ success (index 1)
   -- "an `ri` list may not name an `ri` list"
-  pub ri-named : strict_at ri 0 true 0 ≡ refused (by NOT_PERMITTED 0)
-  pub li-named : strict_at li 0 true 0 ≡ success (leaf LI 4 1)
+  pub ri_named : strict_at ri 0 true 0 ≡ refused (by NOT_PERMITTED 0)
+  pub li_named : strict_at li 0 true 0 ≡ success (leaf LI 4 1)
   -- "inside its own cell, which must be allocated"
   pub empty_8 : strict_at none_8 0 false 0 ≡ success (leaf LI 4 0)
   pub empty_7 : strict_at none_7 0 false 0 ≡ refused (by BAD_SIZE 0)
-  pub one-short : strict_at short 0 false 0 ≡ refused (by BAD_SIZE 0)
-  pub past-image : strict_at past 0 false 0 ≡ refused (by BAD_SIZE 0)
+  pub one_short : strict_at short 0 false 0 ≡ refused (by BAD_SIZE 0)
+  pub past_image : strict_at past 0 false 0 ≡ refused (by BAD_SIZE 0)
   pub one_more : strict_at (past ++ (0 ∷ [])) 0 false 0 ≡ success (leaf LI 4 1)
   pub size_0 : strict_at nought 0 false 0 ≡ refused (by BAD_SIZE 0)
   pub is_free : strict_at free 0 false 0 ≡ refused (by BAD_SIZE 0)
-  pub size-least : strict_at least 0 false 0 ≡ refused (by BAD_SIZE 0)
+  pub size_least : strict_at least 0 false 0 ≡ refused (by BAD_SIZE 0)
   -- the order: the list's own refusals, 20, 3; each position is the list's but for 20
   pub list_first : strict_at lf_cut 2 false 0 ≡ refused (by CUT_SHORT 0)
-  pub kind_second : strict_at lf-free 2 false 0 ≡ refused (by NOT_PERMITTED 0)
-  pub size_last : strict_at lf-free 3 false 0 ≡ refused (by BAD_SIZE 0)
-  pub at-list : strict_at (1 ∷ free) 0 false 1 ≡ refused (by BAD_SIZE 1)
+  pub kind_second : strict_at lf_free 2 false 0 ≡ refused (by NOT_PERMITTED 0)
+  pub size_last : strict_at lf_free 3 false 0 ≡ refused (by BAD_SIZE 0)
+  pub at_list : strict_at (1 ∷ free) 0 false 1 ≡ refused (by BAD_SIZE 1)
   -- the walk: what strict accepts
   pub walk : strict_answer_of (ri_over lf) 0 1 0 2 3 1 ≡ success (counts 1 2 1 0)
   pub walk_kept : strict_kept_by (ri_over lf) 0 1 0 3 ≡ 16 ∷ []
@@ -112,9 +112,9 @@ pub record StrictExamples : Type 0 where
   pub itself_ordinary : answer_of ri 0 1 0 8 4096 ≡ refused (fault TOO_DEEP 0 8)
   pub itself_spent : strict_answer_of ri 0 1 0 1 0 4096 ≡ refused (fault OUT_OF_STEPS 0 1)
   -- an image in which the ordinary reading sees nothing wrong
-  pub free-ordinary : answer_of free 0 1 0 2 1 ≡ success (counts 1 1 1 0)
+  pub free_ordinary : answer_of free 0 1 0 2 1 ≡ success (counts 1 1 1 0)
   -- one leaf list
   pub leaf_3 : leaf_in_room (strict_leaf_at lf 0 0 3) 1 ≡ success (record { kept = 1; entries = 1; dropped = 0 })
   pub leaf_2 : leaf_in_room (strict_leaf_at lf 0 0 2) 1 ≡ refused (by NOT_PERMITTED 0)
-  pub leaf-full : leaf_in_room (strict_leaf_at lf 0 0 3) 0 ≡ refused (no_room_told 0 1 1 0)
-  pub leaf-ri : leaf_in_room (strict_leaf_at ri 0 0 0) 1 ≡ refused (by BAD_SIGN 0)
+  pub leaf_full : leaf_in_room (strict_leaf_at lf 0 0 3) 0 ≡ refused (no_room_told 0 1 1 0)
+  pub leaf_ri : leaf_in_room (strict_leaf_at ri 0 0 0) 1 ≡ refused (by BAD_SIGN 0)

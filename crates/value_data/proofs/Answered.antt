@@ -15,7 +15,7 @@ use Rattle.words.specs.Buffers.{needing}
 use Rattle.words.specs.declared.RoomRefusal.{RoomRefusal}
 use Rattle.words.proofs.Papers.{on_success_of}
 use Rattle.words.proofs.Plain.{Plainly, plainly_success, plainly_refused, plainly_by, plainly_cond, plainly_then, plainly_on}
-use Rattle.words.proofs.Buffers.{room-success, full_of_lem, untouched, filled}
+use Rattle.words.proofs.Buffers.{room_success, full_of_lem, untouched, filled}
 use Rattle.cell.specs.Cells.{Cell, held, too_small, magnitude_at, bytes_left, cell_at}
 use Rattle.cell_big_data.specs.Big.{is_big_data_block}
 use Rattle.words.specs.Words.{word16}
@@ -32,7 +32,7 @@ module _ (image : List ℕ) (base minor raw offset : ℕ) (old new : List ℕ) w
       → (n ≤ length old) × ((s : Source) × (data_of image base minor raw offset ≡ success s) × (size_of raw ≡ n))
   unfolding data_in
   found {n} x =
-      let r = room-success needing (length old) (on_success (λ s. size_of raw) (data_of image base minor raw offset)) n (sym x.answer) in
+      let r = room_success needing (length old) (on_success (λ s. size_of raw) (data_of image base minor raw offset)) n (sym x.answer) in
       (r.1, on_success_of (λ s. size_of raw) (data_of image base minor raw offset) r.0)
 
   pub copied : (n : ℕ) → DataAnswered image base minor raw offset old (Copied n) new → WasCopied image base minor raw offset old new n

@@ -9,7 +9,7 @@ use Rattle.words.specs.Buffers.{needing, in_room}
 use Rattle.writing.specs.Writing.{with_bytes}
 use Rattle.words.specs.declared.Refusal.{Refusal}
 use Rattle.words.proofs.Papers.{on-success, on-refused}
-use Rattle.words.proofs.Buffers.{room-full, room_fits, room-refused, answered_refused, answered_success}
+use Rattle.words.proofs.Buffers.{room_full, room_fits, room_refused, answered_refused, answered_success}
 use Rattle.writing.proofs.Writing.{with_front}
 use Rattle.value_data.specs.Data.{Source, size_of}
 use Rattle.value_data.specs.Answers.{bytes_from, data_of, data_bytes, data_in, DataAnswered}
@@ -24,7 +24,7 @@ module _ (image : List ℕ) (base minor raw offset : ℕ) (old : List ℕ) where
       → DataAnswered image base minor raw offset old (Refused (record { number = f.number; position = f.position; places = 0 })) old
   unfolding data_in
   data_refused f e =
-      answered_refused refl (ap (in_room needing (length old)) (on-refused (λ s. size_of raw) (sym e)) ∙ room-refused needing (length old) (told f))
+      answered_refused refl (ap (in_room needing (length old)) (on-refused (λ s. size_of raw) (sym e)) ∙ room_refused needing (length old) (told f))
 
   module _ (s : Source) (e : success s ≡ found) where
     pub data_full :
@@ -33,7 +33,7 @@ module _ (image : List ℕ) (base minor raw offset : ℕ) (old : List ℕ) where
     unfolding data_in
     data_full h =
         answered_refused refl
-        (ap (in_room needing (length old)) (on-success (λ z. size_of raw) (sym e)) ∙ room-full needing (length old) (size_of raw) h)
+        (ap (in_room needing (length old)) (on-success (λ z. size_of raw) (sym e)) ∙ room_full needing (length old) (size_of raw) h)
 
     pub data_copied :
         {new : List ℕ} → size_of raw ≤ length old → new ≡ with_bytes old 0 (bytes_from image (size_of raw) offset s)

@@ -37,19 +37,19 @@ unfolding source_of is_big segments_needed
 limits =
     record {
       no_bytes = λ image base minor offset. refl;
-      field-full = λ image base minor offset. refl;
+      field_full = λ image base minor offset. refl;
       field_over = λ image base minor offset. refl;
       one_cell = λ image base offset. refl;
       old_one_cell = λ image base offset. refl;
-      two-segments = λ image base offset. refl;
+      two_segments = λ image base offset. refl;
       needed = (refl, refl, refl, refl);
     }
 
 -- ---- resident data
 
 -- a word that stands behind the first 12 bytes, in its bytes
-field-bytes : (s : List ℕ) → Bytes s → 16 ≤ length s → (n : ℕ) → n ≤ 4 → bytes_of n (word32 s 12) ≡ take n (drop 12 s)
-field-bytes s b l n h =
+field_bytes : (s : List ℕ) → Bytes s → 16 ≤ length s → (n : ℕ) → n ≤ 4 → bytes_of n (word32 s 12) ≡ take n (drop 12 s)
+field_bytes s b l n h =
     let e : n + (4 - n) ≡ 4 = omega arith in
     bytes_first n (4 - n) (word32 s 12) ∙ ap (λ (k : ℕ). take n (bytes_of k (word32 s 12))) e
     ∙ ap (take n) (bytes_there 4 s b 12 l) ∙ take-take n 4 (drop 12 s) h
@@ -90,7 +90,7 @@ resident image b position v e t base minor old new n x =
     let h : n ≤ 4 = rw (← z) f.0 in
     let o : v.data_offset_relative ≡ word32 (drop position image) 12 = sym (ap (λ (u : KeyValue). u.data_offset_relative) w.0) in
     let bs : Bytes (drop position image) = λ i. rw (get_or-drop position image i 0) (b (position + i)) in
-    c.row ∙ f.1 ∙ (λ i. bytes_of (z i) (o i)) ∙ field-bytes (drop position image) bs (omega arith) n h ∙ ap (take n) (drop-drop 12 position image)
+    c.row ∙ f.1 ∙ (λ i. bytes_of (z i) (o i)) ∙ field_bytes (drop position image) bs (omega arith) n h ∙ ap (take n) (drop-drop 12 position image)
 
 -- ---- a `db` cell's number of segments
 

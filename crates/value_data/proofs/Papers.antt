@@ -2,7 +2,7 @@
 use mathlib.Core.Path.{◌≡◌, ap}
 use mathlib.Core.List.{List}
 use Prim.Native.Nat.{ℕ}
-use Rattle.words.proofs.Papers.{success-refused, refused-success, same-success, same-told, same-room-refusal}
+use Rattle.words.proofs.Papers.{success-refused, refused-success, same-success, same-told, same_room_refusal}
 use Rattle.words.proofs.Buffers.{determined}
 use Rattle.value_data.specs.Answers.{data_paper, DataAnswered}
 use Rattle.value_data.specs.declared.DataAnswer.{DataAnswer}
@@ -12,7 +12,7 @@ pub data_injective : (r t : DataAnswer) → data_paper r ≡ data_paper t → r 
 data_injective (Copied n) (Copied m) e = ap Copied (same-success e)
 data_injective (Copied n) (Refused g) e = absurd (success-refused e)
 data_injective (Refused f) (Copied m) e = absurd (refused-success e)
-data_injective (Refused f) (Refused g) e = ap Refused (same-room-refusal (same-told e))
+data_injective (Refused f) (Refused g) e = ap Refused (same_room_refusal (same-told e))
 
 pub data_determined :
     (image : List ℕ) (base minor raw offset : ℕ) (old : List ℕ) (r t : DataAnswer) (new new' : List ℕ)

@@ -12,7 +12,7 @@ use lib.ListN.{length, drop, length-append, length-take, length-drop}
 use Rattle.words.specs.Paper.{Paper, success, refused, by, and_then}
 use Rattle.words.specs.Refusals.{BAD_DATA}
 use Rattle.words.proofs.Papers.{success-refused, same-success, then_next, on_success_of}
-use Rattle.writing.proofs.Writing.{bytes-length}
+use Rattle.writing.proofs.Writing.{bytes_length}
 use Rattle.cell.specs.Cells.{Cell, held, too_small, magnitude_at, cell_at}
 use Rattle.cell.specs.Exactly.{Reads}
 use Rattle.cell.specs.declared.CellSize.{CellSize}
@@ -172,7 +172,7 @@ module _ (image : List ℕ) (base minor size offset : ℕ) where
     where
       go : (l : Bool) → cond l (refused (by BAD_DATA 0)) (success field) ≡ success s → length (bytes_from image size offset s) ≡ size
       go true x = absurd (success-refused (sym x))
-      go false x = ap (λ (t : Source). length (bytes_from image size offset t)) (sym (same-success x)) ∙ bytes-length size offset
+      go false x = ap (λ (t : Source). length (bytes_from image size offset t)) (sym (same-success x)) ∙ bytes_length size offset
   row-length false s e =
       let m = made e in
       ap (λ (t : Source). length (bytes_from image size offset t)) m.1 ∙ joined_length image m.0 m.2.lies ∙ m.2.sum

@@ -96,10 +96,10 @@ pub record Limits : Type 0 where
   -- a size of 0 reads no cell, whatever the image, the base and the offset are
   pub no_bytes : (image : List ℕ) (base minor offset : ℕ) → source_of image base minor false 0 offset ≡ success (pieces [])
   -- the offset field holds 4 bytes, and never 5
-  pub field-full : (image : List ℕ) (base minor offset : ℕ) → source_of image base minor true 4 offset ≡ success field
+  pub field_full : (image : List ℕ) (base minor offset : ℕ) → source_of image base minor true 4 offset ≡ success field
   pub field_over : (image : List ℕ) (base minor offset : ℕ) → source_of image base minor true 5 offset ≡ refused (by BAD_DATA 0)
   -- 16,344 bytes are in one cell in every version, 16,345 in one cell up to minor version 3 and in segments from 4 on
   pub one_cell : (image : List ℕ) (base offset : ℕ) → source_of image base 4 false 16344 offset ≡ whole image (piece (offset + base) 16344 ∷ [])
   pub old_one_cell : (image : List ℕ) (base offset : ℕ) → source_of image base 3 false 16345 offset ≡ whole image (piece (offset + base) 16345 ∷ [])
-  pub two-segments : (image : List ℕ) (base offset : ℕ) → source_of image base 4 false 16345 offset ≡ in_segments image base (offset + base) 16345
+  pub two_segments : (image : List ℕ) (base offset : ℕ) → source_of image base 4 false 16345 offset ≡ in_segments image base (offset + base) 16345
   pub needed : (segments_needed 16344 ≡ 1) × (segments_needed 16345 ≡ 2) × (segments_needed 32688 ≡ 2) × (segments_needed 32689 ≡ 3)

@@ -17,29 +17,29 @@ use Rattle.words.proofs.Plain.{Plainly}
 -- ---- the room
 
 module _ {A : Type 0} (full : A → Told) (room : ℕ) where
-  pub room-full : (v : A) → room < (full v).places → in_room full room (success v) ≡ refused (full v)
+  pub room_full : (v : A) → room < (full v).places → in_room full room (success v) ≡ refused (full v)
   unfolding in_room
-  room-full v h = simp (lt-ltb room (full v).places h)
+  room_full v h = simp (lt-ltb room (full v).places h)
 
   pub room_fits : (v : A) → (full v).places ≤ room → in_room full room (success v) ≡ success v
   unfolding in_room
   room_fits v h = simp (le-ltb room (full v).places h)
 
-  pub room-refused : (t : Told) → in_room full room (refused t) ≡ refused t
+  pub room_refused : (t : Told) → in_room full room (refused t) ≡ refused t
   unfolding in_room
-  room-refused t = refl
+  room_refused t = refl
 
   -- an answer that succeeds within the room succeeds without regard to it, and fits
-  pub room-success : (a : Paper A) (v : A) → in_room full room a ≡ success v → (a ≡ success v) × ((full v).places ≤ room)
+  pub room_success : (a : Paper A) (v : A) → in_room full room a ≡ success v → (a ≡ success v) × ((full v).places ≤ room)
   unfolding in_room
-  room-success (success u) v q = go (ltb room (full u).places) refl q
+  room_success (success u) v q = go (ltb room (full u).places) refl q
     where
       go : (b : Bool) → ltb room (full u).places ≡ b → cond b (refused (full u)) (success u) ≡ success v → (success u ≡ success v) × ((full v).places ≤ room)
       go true x y = absurd (success-refused (sym y))
       go false x y =
           let m : (full u).places ≤ room = ltb-false _ _ x in
           (y, rw (same-success y) at m)
-  room-success (refused t) v q = absurd (success-refused (sym q))
+  room_success (refused t) v q = absurd (success-refused (sym q))
 
   -- NO ROOM is given where all else succeeds and the places are too few, and tells what `full` says of that success
   pub full_of_lem : (a : Paper A) {t : Told} → Plainly a → in_room full room a ≡ refused t → t.number ≡ NO_ROOM

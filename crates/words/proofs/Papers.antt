@@ -27,8 +27,8 @@ same-told e = cc
 pub same-refusal : {f g : Refusal} → told f ≡ told g → f ≡ g
 same-refusal e = λ i. record { number = (e i).number; position = (e i).position }
 
-pub same-room-refusal : {f g : RoomRefusal} → told_of_room f ≡ told_of_room g → f ≡ g
-same-room-refusal e = λ i. record { number = (e i).number; position = (e i).position; places = (e i).places }
+pub same_room_refusal : {f g : RoomRefusal} → told_of_room f ≡ told_of_room g → f ≡ g
+same_room_refusal e = λ i. record { number = (e i).number; position = (e i).position; places = (e i).places }
 
 pub verdict_injective : (r t : Verdict) → verdict_paper r ≡ verdict_paper t → r ≡ t
 verdict_injective Whole Whole e = refl

@@ -19,10 +19,10 @@ use Rattle.words.proofs.Little.{Bytes, little_split, little-drop, little-same}
 
 -- ---- the bytes of a number
 
-pub bytes-length : (n x : ℕ) → length (bytes_of n x) ≡ n
+pub bytes_length : (n x : ℕ) → length (bytes_of n x) ≡ n
 unfolding bytes_of
-bytes-length zero x = refl
-bytes-length (suc n) x = ap suc (bytes-length n (x / 256))
+bytes_length zero x = refl
+bytes_length (suc n) x = ap suc (bytes_length n (x / 256))
 
 -- fewer of them are the first of more
 pub bytes_first : (n m x : ℕ) → bytes_of n x ≡ take n (bytes_of (n + m) x)
@@ -66,11 +66,11 @@ unfolding bytes_of
 word_bytes n s b at =
     rw (little_first n s at, digits_mod (little n s (at + 1)) (b at), digits_div (little n s (at + 1)) (b at))
 
-pub bytes-each : (n : ℕ) (s : List ℕ) → Bytes s → (at i : ℕ) → i < n → byte_at (bytes_of n (little n s at)) i ≡ byte_at s (at + i)
-bytes-each zero s b at i h = absurd (omega arith)
-bytes-each (suc n) s b at zero h = rw (word_bytes n s b at, add-zero)
-bytes-each (suc n) s b at (suc i) h =
-    rw (word_bytes n s b at) (bytes-each n s b (at + 1) i (omega arith) ∙ ap (byte_at s) (omega arith))
+pub bytes_each : (n : ℕ) (s : List ℕ) → Bytes s → (at i : ℕ) → i < n → byte_at (bytes_of n (little n s at)) i ≡ byte_at s (at + i)
+bytes_each zero s b at i h = absurd (omega arith)
+bytes_each (suc n) s b at zero h = rw (word_bytes n s b at, add-zero)
+bytes_each (suc n) s b at (suc i) h =
+    rw (word_bytes n s b at) (bytes_each n s b (at + 1) i (omega arith) ∙ ap (byte_at s) (omega arith))
 
 pub bytes_there : (n : ℕ) (s : List ℕ) → Bytes s → (at : ℕ) → at + n ≤ length s → bytes_of n (little n s at) ≡ take n (drop at s)
 unfolding bytes_of
@@ -83,7 +83,7 @@ bytes_there (suc n) s b at h =
 pub row_read : (xs ys : List ℕ) (n x : ℕ) → little n (xs ++ (bytes_of n x ++ ys)) (length xs) ≡ x % 256 ^ n
 row_read xs ys n x =
     little-same n (xs ++ (bytes_of n x ++ ys)) (bytes_of n x) (length xs) 0
-    (λ i k. get_or-append-add xs (bytes_of n x ++ ys) i 0 ∙ get_or-append (bytes_of n x) ys 0 i (omega (arith, bytes-length n x))
+    (λ i k. get_or-append-add xs (bytes_of n x ++ ys) i 0 ∙ get_or-append (bytes_of n x) ys 0 i (omega (arith, bytes_length n x))
     ∙ ap (byte_at (bytes_of n x)) (sym (zero-add i)))
     ∙ bytes_read n x
 
@@ -167,8 +167,8 @@ module _ {n x at : ℕ} {old : List ℕ} {r : Bool} {new : List ℕ} (p : PutAt 
   pub put_true : at + n ≤ length old → r ≡ true
   put_true h = p.fits ∙ le-leb (at + n) (length old) h
 
-  pub put-room : r ≡ true → at + n ≤ length old
-  put-room e = leb-true (at + n) (length old) (sym p.fits ∙ e)
+  pub put_room : r ≡ true → at + n ≤ length old
+  put_room e = leb-true (at + n) (length old) (sym p.fits ∙ e)
 
   pub put-none : r ≡ false → length old < at + n
   put-none e = leb-false (at + n) (length old) (sym p.fits ∙ e)
@@ -181,13 +181,13 @@ module _ {n x at : ℕ} {old : List ℕ} {r : Bool} {new : List ℕ} (p : PutAt 
   put_written e = p.buffer ∙ simp (sym p.fits ∙ e)
 
   fit : r ≡ true → at + length (bytes_of n x) ≤ length old
-  fit e = omega (arith, put-room e, bytes-length n x)
+  fit e = omega (arith, put_room e, bytes_length n x)
 
   -- behind a row that is written already: it grows by the number's bytes
   pub put_next : (xs rest : List ℕ) → old ≡ xs ++ rest → at ≡ length xs → r ≡ true → new ≡ xs ++ (bytes_of n x ++ drop n rest)
   put_next xs rest o a e =
       put_written e ∙ (λ i. with_bytes (o i) (a i) (bytes_of n x)) ∙ with_next xs rest (bytes_of n x)
-      ∙ ap (λ (k : ℕ). xs ++ (bytes_of n x ++ drop k rest)) (bytes-length n x)
+      ∙ ap (λ (k : ℕ). xs ++ (bytes_of n x ++ drop k rest)) (bytes_length n x)
 
   -- as stores one after another
   pub put_sets : r ≡ true → new ≡ sets old at (bytes_of n x)
@@ -208,7 +208,7 @@ module _ {n x at : ℕ} {old : List ℕ} {r : Bool} {new : List ℕ} (p : PutAt 
       go : (b : Bool) → r ≡ b → (i < at) ⊎ (at + n ≤ i) → byte_at new i ≡ byte_at old i
       go true e (inl k) = ap (λ (s : List ℕ). byte_at s i) (put_written e) ∙ with_before old at (bytes_of n x) (fit e) i k
       go true e (inr k) =
-          ap (λ (s : List ℕ). byte_at s i) (put_written e) ∙ with_behind old at (bytes_of n x) (fit e) i (omega (arith, bytes-length n x))
+          ap (λ (s : List ℕ). byte_at s i) (put_written e) ∙ with_behind old at (bytes_of n x) (fit e) i (omega (arith, bytes_length n x))
       go false e k = ap (λ (s : List ℕ). byte_at s i) (put_refused e)
 
   pub put_other_word : (m to : ℕ) → (to + m ≤ at) ⊎ (at + n ≤ to) → little m new to ≡ little m old to
@@ -219,9 +219,9 @@ module _ {n x at : ℕ} {old : List ℕ} {r : Bool} {new : List ℕ} (p : PutAt 
       apart i k (inr g) = inr (omega arith)
 
   -- those that are written are the number's, and read again they give it
-  pub put-bytes : r ≡ true → take n (drop at new) ≡ bytes_of n x
-  put-bytes e =
-      let l : length (bytes_of n x) ≡ n = bytes-length n x in
+  pub put_bytes : r ≡ true → take n (drop at new) ≡ bytes_of n x
+  put_bytes e =
+      let l : length (bytes_of n x) ≡ n = bytes_length n x in
       ap (λ (s : List ℕ). take n (drop at s)) (put_written e)
       ∙ ap (λ (k : ℕ). take k (drop at (with_bytes old at (bytes_of n x)))) (sym l) ∙ with_part old at (bytes_of n x) (fit e)
 
@@ -229,7 +229,7 @@ module _ {n x at : ℕ} {old : List ℕ} {r : Bool} {new : List ℕ} (p : PutAt 
   put_read e =
       little-same n new (bytes_of n x) at 0
       (λ i k. ap (λ (s : List ℕ). byte_at s (at + i)) (put_written e)
-      ∙ with_among old at (bytes_of n x) (fit e) i (omega (arith, bytes-length n x)) ∙ ap (byte_at (bytes_of n x)) (sym (zero-add i)))
+      ∙ with_among old at (bytes_of n x) (fit e) i (omega (arith, bytes_length n x)) ∙ ap (byte_at (bytes_of n x)) (sym (zero-add i)))
       ∙ bytes_read n x
 
   pub put_back : r ≡ true → x < 256 ^ n → little n new at ≡ x
@@ -241,7 +241,7 @@ pub put-after :
     → PutAt n x at out r new → out ≡ with_bytes old from xs → at ≡ from + length xs → from + length xs + n ≤ length old
     → new ≡ with_bytes old from (xs ++ bytes_of n x)
 put-after old from xs {n} {x} {at} {out} p e a h =
-    let b : length (bytes_of n x) ≡ n = bytes-length n x in
+    let b : length (bytes_of n x) ≡ n = bytes_length n x in
     let l : length out ≡ length old = ap length e ∙ with_length old from xs (omega arith) in
     let fit : at + n ≤ length out = omega arith in
     put_written p (put_true p fit) ∙ (λ i. with_bytes (e i) (a i) (bytes_of n x)) ∙ with_more old from xs (bytes_of n x) (omega arith)
@@ -294,7 +294,7 @@ module _ (old : List ℕ) (at n x : ℕ) where
         fits = sym (le-leb (at + n) (length old) h);
         buffer =
             ap (λ (j : ℕ). sets out (at + i) (bytes_of j rest)) (sym e) ∙ p.writes
-            ∙ sym (with_sets old at (bytes_of n x) (omega (arith, bytes-length n x))) ∙ simp (le-leb (at + n) (length old) h);
+            ∙ sym (with_sets old at (bytes_of n x) (omega (arith, bytes_length n x))) ∙ simp (le-leb (at + n) (length old) h);
       }
 
   pub put-nothing : leb (at + n) (length old) ≡ false → PutAt n x at old false old

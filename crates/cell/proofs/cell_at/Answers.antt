@@ -1,10 +1,10 @@
 use mathlib.Core.Path.{◌∙◌}
-use Rattle.cell.proofs.Cells.{cell-outside, cell_no_word, cell_passes, cell_small, cell-held}
+use Rattle.cell.proofs.Cells.{cell_outside, cell_no_word, cell_passes, cell_small, cell-held}
 use Rattle.cell.proofs.cell_at.Goals as goal
 
 pub returns-then-image-position : goal.returns-then-image-position
 returns-then-image-position c =
-    let a = c.args in c.refuse.ensures ∙ cell-outside a.image.now a.position a.least c.if-image-position.true
+    let a = c.args in c.refuse.ensures ∙ cell_outside a.image.now a.position a.least c.if-image-position.true
 
 pub returns-then-left-lt-SIZE_WORD : goal.returns-then-left-lt-SIZE_WORD
 returns-then-left-lt-SIZE_WORD c =

@@ -1,6 +1,6 @@
 use native.Mathlib.Omega.{arith}
 use Rattle.deleted_keys.proofs.Keys.{part_fits}
-use Rattle.deleted_keys.proofs.Answers.{too_short, bins-refused, no_room, lists}
+use Rattle.deleted_keys.proofs.Answers.{too_short, bins_refused, no_room, lists}
 use Rattle.deleted_keys.proofs.deleted_keys.Goals as goal
 
 pub returns-then-image-end : goal.returns-then-image-end
@@ -29,7 +29,7 @@ pub returns-in-Refused : goal.returns-in-Refused
 returns-in-Refused c =
     let w = c in
     let a = w.args in
-    bins-refused a.image.now a.base a.size a.out.now w.if-image-end.false _ w.part-bins.ensures.bytes c.scan.ensures c.in-Refused.is
+    bins_refused a.image.now a.base a.size a.out.now w.if-image-end.false _ w.part-bins.ensures.bytes c.scan.ensures c.in-Refused.is
 
 pub returns-else-out-n : goal.returns-else-out-n
 returns-else-out-n c =

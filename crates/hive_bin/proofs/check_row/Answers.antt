@@ -2,7 +2,7 @@ use native.Mathlib.Omega.{arith}
 use mathlib.Core.Path.{◌∙◌}
 use Rattle.hive_bin.specs.Walk.{bin_row, bins_in}
 use Rattle.hive_bin.proofs.Sums.{starts, ends, stops, fails, room, goes}
-use Rattle.hive_bin.proofs.Pieces.{bins_sound, bins-whole, bin_size_held, bin_told, bin_fails, bin_room, bin_adds_held}
+use Rattle.hive_bin.proofs.Pieces.{bins_sound, bins_whole, bin_size_held, bin_told, bin_fails, bin_room, bin_adds_held}
 use Rattle.hive_bin.proofs.check_row.Goals as goal
 
 pub loop-left-init : goal.loop-left-init
@@ -40,7 +40,7 @@ sum-totals-requires c =
     let so = q.loop-left.invariant in
     let size = bin_size_held _ _ _ q.bin_size-size.ensures in
     let adds = bin_adds_held _ _ _ q.bin_size-size.ensures (omega arith) _ c.check_cells.ensures c.in-Totals.is c.one_bin.ensures c.sum.ensures in
-    room so (bins_sound _) size (omega arith) (bins-whole _) adds (omega arith)
+    room so (bins_sound _) size (omega arith) (bins_whole _) adds (omega arith)
 
 pub overflow_add-at-in-Totals : goal.overflow_add-at-in-Totals
 overflow_add-at-in-Totals c =
@@ -67,7 +67,7 @@ loop-left-preserved c =
     let so = q.loop-left.invariant in
     let size = bin_size_held _ _ _ q.bin_size-size.ensures in
     let adds = bin_adds_held _ _ _ q.bin_size-size.ensures (omega arith) _ c.check_cells.ensures c.in-Totals.is c.one_bin.ensures c.sum.ensures in
-    goes so (bins_sound _) size (omega arith) (bins-whole _) adds c.sum-totals.ensures
+    goes so (bins_sound _) size (omega arith) (bins_whole _) adds c.sum-totals.ensures
 
 pub returns-in-Refused : goal.returns-in-Refused
 unfolding bins_in

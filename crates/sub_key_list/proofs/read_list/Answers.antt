@@ -1,11 +1,11 @@
 use mathlib.Core.Path.{◌∙◌}
 use native.Mathlib.Omega.{arith}
-use Rattle.sub_key_list.proofs.Cases.{entries_fit, list-outside, list_cut, list_unknown, list_passes, list-index, list-leaf}
+use Rattle.sub_key_list.proofs.Cases.{entries_fit, list_outside, list_cut, list_unknown, list_passes, list-index, list-leaf}
 use Rattle.sub_key_list.proofs.read_list.Goals as goal
 
 pub returns-then-image-position : goal.returns-then-image-position
 returns-then-image-position c =
-    c.refuse.ensures ∙ list-outside _ _ c.if-image-position.true
+    c.refuse.ensures ∙ list_outside _ _ c.if-image-position.true
 
 pub returns-then-left-lt8 : goal.returns-then-left-lt8
 returns-then-left-lt8 c =

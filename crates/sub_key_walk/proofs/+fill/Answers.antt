@@ -3,7 +3,7 @@ use Prim.Native.Nat.{◌-◌}
 use native.Mathlib.Omega.{arith}
 use Rattle.sub_key_walk.specs.Trace.{trace, ordinary}
 use Rattle.sub_key_walk.proofs.Traces.{entry_of_index}
-use Rattle.sub_key_walk.proofs.Fills.{spread_start, spread_room, spread_step, spread_long, spread_end, fill_deep, fill_bad, leaf_room, leaf-whole, fill_leaf, index-room, fill_index}
+use Rattle.sub_key_walk.proofs.Fills.{spread_start, spread_room, spread_step, spread_long, spread_end, fill_deep, fill_bad, leaf_room, leaf-whole, fill_leaf, index_room, fill_index}
 use Rattle.sub_key_walk.proofs.+fill.Goals as goal
 
 pub returns-then-left-eq0 : goal.returns-then-left-eq0
@@ -19,7 +19,7 @@ fill_leaf-requires t c =
 pub loop-k-init : goal.loop-k-init
 loop-k-init t c =
     let a = c.args in
-    spread_start (trace (ordinary a.image.now) (a.left - 1) a.image.now a.base) a.image.now _ _ a.whole a.out.now a.place (index-room (ordinary a.image.now) a.left a.image.now a.base a.offset c.if-left-eq0.false (sym c.in-Index.ensures) c.requires)
+    spread_start (trace (ordinary a.image.now) (a.left - 1) a.image.now a.base) a.image.now _ _ a.whole a.out.now a.place (index_room (ordinary a.image.now) a.left a.image.now a.base a.offset c.if-left-eq0.false (sym c.in-Index.ensures) c.requires)
 
 pub word-next-requires : goal.word-next-requires
 word-next-requires t c =

@@ -1,6 +1,6 @@
 use mathlib.Core.Path.{refl, sym, ap, ◌∙◌}
 use Rattle.sub_key_list.specs.Lists.{list_paper}
-use Rattle.sub_key_walk.proofs.Answers.{leaf-refused, leaf-index, leaf-full, leaf_roomy, leaf-whole, leaf_filled}
+use Rattle.sub_key_walk.proofs.Answers.{leaf-refused, leaf-index, leaf_full, leaf_roomy, leaf-whole, leaf_filled}
 use Rattle.sub_key_walk.proofs.leaf_sub_keys.Goals as goal
 
 pub read_leaf-read-requires : goal.read_leaf-read-requires
@@ -10,7 +10,7 @@ read_leaf-read-requires c =
 pub returns-then-room-kept : goal.returns-then-room-kept
 returns-then-room-kept c =
     let a = c.args in
-    leaf-full a.image.now a.base a.position a.out.now (ap list_paper (sym c.in-Leaf.is) ∙ c.read_list.ensures) c.read_leaf-read.ensures c.if-room-kept.true c.full.ensures
+    leaf_full a.image.now a.base a.position a.out.now (ap list_paper (sym c.in-Leaf.is) ∙ c.read_list.ensures) c.read_leaf-read.ensures c.if-room-kept.true c.full.ensures
 
 pub fill_leaf-requires : goal.fill_leaf-requires
 fill_leaf-requires c =

@@ -58,18 +58,18 @@ sum_of_sources() (
     } | sha256sum | cut -c 1-32
 )
 
-# The sources once more, in target/list/build, where the toolchain proves and builds them: it writes beside them. What it keeps from call to
-# call stays.
-copy_sources() (
-    mkdir -p "$work/build/crates" && needed >"$work/build/crates.txt" || exit 1
-    needed | cut -d: -f 1 | while read -r each; do
-        to=$work/build/crates/$each
-        mkdir -p "$to" && rm -rf "$to/src" "$to/specs" "$to/proofs" || exit 1
+# The sources once more, in a temporary folder outside the project, where the toolchain proves and builds them: it writes beside them, and
+# the gate takes no sources below target/.
+copy_sources() {
+    copy=$(mktemp -d "${TMPDIR:-/tmp}/$me.XXXXXX" 2>/dev/null) || return 1
+    mkdir "$copy/crates" && needed >"$copy/crates.txt" || return 1
+    for each in $(needed | cut -d: -f 1); do
+        mkdir "$copy/crates/$each" || return 1
         for part in src specs proofs; do
-            if [ -d "$here/crates/$each/$part" ]; then cp -R "$here/crates/$each/$part" "$to/" || exit 1; fi
+            if [ -d "$here/crates/$each/$part" ]; then cp -R "$here/crates/$each/$part" "$copy/crates/$each/" || return 1; fi
         done
     done
-)
+}
 
 unwritable() {
     stop 2 "$what is not built from these sources, and this user cannot write $here/target to build it." \
@@ -122,14 +122,14 @@ prove() {
     (: >"$work/log") 2>/dev/null || unwritable
     (echo >"$work/log") 2>/dev/null || stop 2 "nothing can be written to $here/target. Is the disk full?"
     say "proving and building $what, which takes a minute or two the first time."
-    copy_sources || stop 2 "the sources cannot be copied to $here/target. Is the disk full?"
-    # Built, the program runs once, on no input.
-    (cd "$work/build/crates/$crate" && rt run) </dev/null >"$work/log" 2>&1
+    copy_sources || stop 2 "the sources cannot be copied to a temporary folder. Is the disk full?"
+    # Built, the program runs once, on no input. Before that 1 and 3 say that it is not proved.
+    (cd "$copy/crates/$crate" && rt run) </dev/null >"$work/log" 2>&1
     status=$?
     if [ "$status" -ne 0 ]; then
         verdict=2 why="the toolchain failed with status $status."
         case $status in
-        1 | 3) if grep -q '^logic=not-proved' "$work/log"; then verdict=1 why="$what is not proved."; fi ;;
+        1 | 3) if ! grep -q '^rt: running' "$work/log"; then verdict=1 why="$what is not proved."; fi ;;
         esac
         say "$why The last lines of target/list/log:"
         tail -n 5 "$work/log" >&2
@@ -137,13 +137,14 @@ prove() {
     fi
     [ "$(sum_of_sources)" = "$sum" ] || stop 2 "the sources changed while they were proved. Run ./$me again."
     new=$work/new.$$
-    if ! { cp "$work/build/crates/$crate/out/$crate" "$new" && chmod 755 "$new" && rm -f "$work/$crate"-* && mv "$new" "$program"; }; then
+    if ! { cp "$copy/crates/$crate/out/$crate" "$new" && chmod 755 "$new" && rm -f "$work/$crate"-* && mv "$new" "$program"; }; then
         stop 2 "the program cannot be put into target/list. Is the disk full?"
     fi
 }
 
-new='' scratch=''
+new='' scratch='' copy=''
 clean() {
+    if [ -n "$copy" ]; then rm -rf "$copy"; fi
     for each in "$new" "$scratch"; do
         if [ -n "$each" ]; then rm -f "$each"; fi
     done
@@ -159,6 +160,7 @@ build() {
         stop 2 "the Rattle toolchain does not work: 'rt version' or 'rt doc' fails."
     fi
     machine=$(uname -m)
+    [ "$machine" = x86_64 ] || stop 2 "the program is for x86-64, and this machine is another."
     work=$here/target/list
     lock=$work/lock
     sum=$(sum_of_sources)
@@ -172,7 +174,6 @@ build() {
     drop_lock
     tools=$(dirname "$guide")/toolchain
     loader=$tools/lib/ld-linux-x86-64.so.2
-    [ "$machine" = x86_64 ] || stop 2 "the program is for x86-64, and this machine is another."
 }
 
 # Runs the program with these arguments.

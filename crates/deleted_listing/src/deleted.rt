@@ -42,7 +42,7 @@ fn list(image: &[u8]) -> bool {
     }
 }
 
-// Lists the deleted keys of what a file descriptor delivers: at most 65,536 bytes.
+// Lists the deleted keys of what an input delivers: at most 65,536 bytes.
 pub fn list_input<R: Read>(input: &mut R) {
     let mut image = [0u8; 65536];
     let hive = console::read_hive(input, &mut image);

@@ -42,6 +42,7 @@ pub enum SubKeyList {
 }
 
 // The bytes that an entry of a kind of list takes; 0 for an unknown kind.
+#[tactic(auto, unfolding(crate::specs::Lists::entry_size))]
 fn entry_size(kind: u16) -> u8
     ensures { result ≡ entry_size kind }
 {

@@ -1,6 +1,5 @@
-use mathlib.Core.Path.{ap}
+use mathlib.Core.Path.{ap, refl}
 use mathlib.Core.Bool.{not}
-use mathlib.Core.Path.{refl}
 use Rattle.words.proofs.Signed.{back}
 use Rattle.cell_key_value.specs.Lookup.{lookup_of}
 use Rattle.key_in_place.proofs.Behind.{tested_here, tested_elsewhere}

@@ -1,6 +1,5 @@
-use mathlib.Core.Path.{ap}
+use mathlib.Core.Path.{ap, refl}
 use mathlib.Core.Bool.{not}
-use mathlib.Core.Path.{refl}
 use lib.ListN.{length}
 use Rattle.words.proofs.Signed.{back}
 use Rattle.cell_key_node.specs.ValueList.{value_list_of, entries_of}

@@ -1,6 +1,5 @@
-use mathlib.Core.Path.{ap}
+use mathlib.Core.Path.{ap, ◌∙◌}
 use mathlib.Core.Bool.{not}
-use mathlib.Core.Path.{◌∙◌}
 use Rattle.sub_key_list.proofs.Strict.{checks_barred, checks_cell, checks_whole}
 use Rattle.sub_key_list.proofs.strict_checks.Goals as goal
 

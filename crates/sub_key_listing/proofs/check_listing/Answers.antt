@@ -1,6 +1,5 @@
-use mathlib.Core.Path.{ap}
+use mathlib.Core.Path.{ap, ◌∙◌}
 use mathlib.Core.Bool.{not}
-use mathlib.Core.Path.{◌∙◌}
 use Rattle.words.proofs.Tests.{test_passed}
 use Rattle.sub_key_listing.proofs.Answers.{kept_number, check_bad, check_refused, walk_counts, check_other, check_accepted}
 use Rattle.sub_key_listing.proofs.check_listing.Goals as goal

@@ -13,4 +13,4 @@ returns-then-n-bytes c =
 
 pub returns : goal.returns
 returns c =
-    let l = c.if-n-bytes.false in c.is_framed.ensures ∙ formed_test c.args.listing.now (λ i. (c.shared_slice_known-1.given i).fits) _ (omega arith)
+    let l = c.if-n-bytes.false in c.is_framed.ensures ∙ formed_test c.args.listing.now (λ i. (c.type_inv.listing i).fits) _ (omega arith)

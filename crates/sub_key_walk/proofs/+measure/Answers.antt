@@ -1,19 +1,17 @@
 use mathlib.Core.Path.{◌≡◌, sym}
 use native.Mathlib.Omega.{arith}
 use borrow.Author.Rules.{rules}
-use Rattle.sub_key_list.specs.Lists.{list_paper}
+use Rattle.sub_key_list.specs.Lists.{list_paper, Listed}
 use Rattle.sub_key_list.specs.declared.SubKeyList.{SubKeyList}
 use Rattle.sub_key_walk.specs.Walk.{so_far, reading, Bounded}
 use Rattle.sub_key_walk.specs.declared.Counts.{Counts}
 use Rattle.sub_key_list.specs.declared.SubKeyList.TheVariants.{Leaf, Index, Refused}
 use Rattle.words.specs.Paper.{Paper}
-use Rattle.sub_key_list.specs.Lists.{Listed}
-use Prim.Native.Nat.{◌+◌}
+use Prim.Native.Nat.{◌+◌, ℕ}
 use mathlib.Core.List.{List}
 use Rattle.sub_key_walk.proofs.Profiles.{reading_read}
 use Rattle.sub_key_walk.proofs.Traces.{entry_of_index}
 use Rattle.sub_key_walk.proofs.Walks.{indexing_start, indexing_step, walk_deep, walk_spent, leaf_small, Reached, walk_bad, reached_small, walk_leaf, index_bounded, walk_index, walk_index_refused}
-use Prim.Native.Nat.{ℕ}
 use Rattle.sub_key_walk.proofs.+measure.Goals as goal
 
 -- what is known once the list is read, at what the code then finds there

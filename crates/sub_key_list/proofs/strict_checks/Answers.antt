@@ -1,3 +1,4 @@
+use borrow.Author.Rules.{rules}
 use mathlib.Core.Path.{ap, ◌∙◌}
 use mathlib.Core.Bool.{not}
 use Rattle.sub_key_list.proofs.Strict.{checks_barred, checks_cell, checks_whole}
@@ -5,11 +6,11 @@ use Rattle.sub_key_list.proofs.strict_checks.Goals as goal
 
 pub returns-then-barred : goal.returns-then-barred
 returns-then-barred c =
-    c.bar.ensures ∙ checks_barred _ _ _ _ c.half-kind.ensures c.bars-barred.ensures c.if-barred.true
+    (search rules) ∙ checks_barred _ _ _ _ c.half-kind.ensures c.bars-barred.ensures c.if-barred.true
 
 pub returns-then-not-whole : goal.returns-then-not-whole
 returns-then-not-whole c =
-    c.bar-then-not-whole.ensures ∙ checks_cell _ _ _ _ c.half-kind.ensures c.bars-barred.ensures c.if-barred.false c.in_own_cell-whole.ensures (ap not c.if-not-whole.true)
+    (search rules) ∙ checks_cell _ _ _ _ c.half-kind.ensures c.bars-barred.ensures (search rules) c.in_own_cell-whole.ensures (ap not c.if-not-whole.true)
 
 pub returns : goal.returns
 returns c =

@@ -22,12 +22,12 @@ module _ (hd : ℕ → ℕ → Paper Listed) (budget : ℕ) (st : Counts) (level
 pub returns-then-levels-eq0 : goal.returns-then-levels-eq0
 returns-then-levels-eq0 t c =
     let a = c.args in
-    walk_deep (reading a.strict a.image.now a.minor) a.budget (so_far a.lists a.entries a.dropped) a.levels a.image.now a.base a.offset c.refuse.ensures c.if-levels-eq0.true
+    walk_deep (reading a.strict a.image.now a.minor) a.budget (so_far a.lists a.entries a.dropped) a.levels a.image.now a.base a.offset (search rules) c.if-levels-eq0.true
 
 pub returns-then-lists-budget : goal.returns-then-lists-budget
 returns-then-lists-budget t c =
     let a = c.args in
-    walk_spent (reading a.strict a.image.now a.minor) a.budget (so_far a.lists a.entries a.dropped) a.levels a.image.now a.base a.offset c.refuse-then-lists-budget.ensures c.if-levels-eq0.false c.if-lists-budget.true
+    walk_spent (reading a.strict a.image.now a.minor) a.budget (so_far a.lists a.entries a.dropped) a.levels a.image.now a.base a.offset (search rules) (search rules) c.if-lists-budget.true
 
 pub read_leaf-read-requires : goal.read_leaf-read-requires
 read_leaf-read-requires t c =

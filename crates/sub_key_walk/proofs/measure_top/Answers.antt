@@ -18,7 +18,7 @@ overflow_sub-all c =
 pub returns-then-leaf-le-FEW : goal.returns-then-leaf-le-FEW
 returns-then-leaf-le-FEW c =
     let a = c.args in
-    ap walk_paper c.read_so_far.ensures ∙ top_leaf a.budget a.image.now a.base a.list _ _ _ (λ z. let y = c.if-budget-gt0.true in omega arith) (sym c.in-Leaf.ensures) c.dropped_few-lost.ensures
+    ap walk_paper c.read_so_far.ensures ∙ top_leaf a.budget a.image.now a.base a.list _ _ _ (λ z. omega arith) (sym c.in-Leaf.ensures) c.dropped_few-lost.ensures
 
 pub returns : goal.returns
 returns c =

@@ -1,13 +1,14 @@
 -- The columns of the sheet on which the checksum is folded. Assumes nothing.
 use mathlib.Core.Path.{◌≡◌, refl, sym, ap, ap₂, ◌∙◌}
-use mathlib.Core.List.{List}
+use mathlib.Core.List.{List, ◌++◌}
 use Prim.Native.Nat.{ℕ, zero, suc, ◌+◌, ◌*◌, ◌≤◌, ◌<◌}
 use native.Mathlib.Nat.{add-zero, zero-add, add-suc}
 use native.Mathlib.Decide.{dec_le}
 use native.Mathlib.Omega.{arith}
 use lib.Bits.{bit_xor, xor_zero_r}
-use lib.ListN.{length, set, replicate, length-set, get_or-replicate}
+use lib.ListN.{length, take, drop, set, replicate, get_or-replicate}
 use lib.Seq.{get_or-set_same, get_or-set_other}
+use Rattle.std.proofs.lemmas.Grind.{common_steps}
 use Rattle.words.specs.Words.{byte_at}
 use Rattle.words.proofs.Little.{Bytes, little_4, little-same}
 use Rattle.base_block.specs.Checksum.{xor_of}
@@ -16,33 +17,23 @@ use Rattle.base_block.specs.Sheets.{Written, LaidOut, Folded}
 use Rattle.base_block.proofs.Xor.{xor_assoc, xor_four}
 use Rattle.base_block.proofs.Columns.{row_at, words_by_columns}
 
--- a loop that writes the first n bytes has written the first i
-pub record Filling (n : ℕ) (rule : ℕ → ℕ) (old new : List ℕ) (i : ℕ) : Type 0 where
-  pub within : i ≤ n
-  pub long : length new ≡ length old
-  pub so_far : Written i rule old new
+-- bytes written by a rule: none, one more, and those of another list
+module _ {rule : ℕ → ℕ} {old : List ℕ} where
+  pub written_none : Written 0 rule old old
+  written_none = record { first = λ j k. absurd (omega arith); rest = λ j k. refl }
 
-module _ {n : ℕ} {rule : ℕ → ℕ} {old : List ℕ} where
-  pub filling_start : Filling n rule old old 0
-  filling_start = record { within = omega arith; long = refl; so_far = record { first = λ j k. absurd (omega arith); rest = λ j k. refl } }
-
-  pub filling_more :
-      {new : List ℕ} {i : ℕ} (v : ℕ) → n ≤ length old → i < n → v ≡ rule i → Filling n rule old new i → Filling n rule old (set new i v) (i + 1)
-  filling_more {new} {i} v room h e f =
-      record { within = omega arith; long = length-set new i v ∙ f.long; so_far = record { first = first; rest = rest } }
+  pub written_more : {new : List ℕ} {i : ℕ} (v : ℕ) → i < length new → v ≡ rule i → Written i rule old new → Written (i + 1) rule old (set new i v)
+  written_more {new} {i} v room e f = record { first = first; rest = λ j k. get_or-set_other new i j v 0 (λ p. omega arith) ∙ f.rest j (omega arith) }
     where
       first : (j : ℕ) → j < i + 1 → byte_at (set new i v) j ≡ rule j
       first j k = go (dec_le i j)
         where
           go : Dec (i ≤ j) → byte_at (set new i v) j ≡ rule j
-          go (yes q) = let same : j ≡ i = omega arith in rw same (get_or-set_same new i v 0 (omega (arith, f.long)) ∙ e)
-          go (no q) = get_or-set_other new i j v 0 (λ p. omega arith) ∙ f.so_far.first j (omega arith)
+          go (yes q) = let same : j ≡ i = omega arith in rw same (get_or-set_same new i v 0 room ∙ e)
+          go (no q) = get_or-set_other new i j v 0 (λ p. omega arith) ∙ f.first j (omega arith)
 
-      rest : (j : ℕ) → i + 1 ≤ j → byte_at (set new i v) j ≡ byte_at old j
-      rest j k = get_or-set_other new i j v 0 (λ p. omega arith) ∙ f.so_far.rest j (omega arith)
-
-  pub filling_done : {new : List ℕ} {i : ℕ} → n ≤ i → Filling n rule old new i → Written n rule old new
-  filling_done {new} {i} h f = let all : i ≡ n = omega (arith, f.within) in rw (← all) f.so_far
+pub copied : (n : ℕ) (s old : List ℕ) → n ≤ length s → Written n (byte_at s) old (take n s ++ drop n old)
+copied n s old h = record { first = λ i k. grind (arith, common_steps); rest = λ i k. grind (arith, common_steps) }
 
 -- columns of the same bytes are the same
 column_same : (s t : List ℕ) (c n : ℕ) → ((i : ℕ) → i < n → byte_at s (4 * i + c) ≡ byte_at t (4 * i + c)) → column_of s c n ≡ column_of t c n

@@ -5,9 +5,8 @@ use Rattle.words.specs.Words.{byte_at, word32}
 use Rattle.base_block.specs.Checksum.{xor_of, mended, checksum_of}
 use Rattle.base_block.specs.Block.{block_of}
 use Rattle.base_block.specs.Answers.{sum_paper, block_paper}
-use Rattle.base_block.specs.declared.Checksum.TheVariants as sum
 use Rattle.base_block.specs.declared.BaseBlock.{BaseBlock}
-use Rattle.base_block.specs.declared.BlockAnswer.TheVariants as block
+use Rattle.std.specs.Prelude.{Ok}
 
 -- a column: byte c of each of the first n rows of four bytes, folded from 0
 unfoldable pub column_of : List ℕ → ℕ → ℕ → ℕ
@@ -22,5 +21,5 @@ row_of s n = column_of s 0 n ∷ column_of s 1 n ∷ column_of s 2 n ∷ column_
 -- every row of bytes; proved as `by_columns` in proofs/Columns.antt.
 pub record ByColumns (s : List ℕ) : Type 0 where
   pub words : (n : ℕ) → xor_of s n ≡ word32 (row_of s n) 0
-  pub checksum : (x : ℕ) → sum_paper (sum.Sum x) ≡ checksum_of s → x ≡ mended (word32 (row_of s 127) 0)
-  pub computed : (b : BaseBlock) → block_paper (block.Block b) ≡ block_of s → b.computed_checksum ≡ mended (word32 (row_of s 127) 0)
+  pub checksum : (x : ℕ) → sum_paper (Ok x) ≡ checksum_of s → x ≡ mended (word32 (row_of s 127) 0)
+  pub computed : (b : BaseBlock) → block_paper (Ok b) ≡ block_of s → b.computed_checksum ≡ mended (word32 (row_of s 127) 0)

@@ -2,30 +2,21 @@
 #![tactic(auto)]
 
 ghost use Rattle.std.specs.Prelude.{◌≡◌, ◌*◌, ◌≤◌, length};
+ghost use Rattle.words.specs.Paper.{fault_number};
 ghost use Rattle.words.specs.Parts.{Part};
 ghost use Rattle.base_block.specs.Checksum.{xor_of, mended, checksum_of};
 ghost use Rattle.base_block.specs.Block.{type_of, format_of, fields_of, head_fault, block_of, part_of, part_at};
 ghost use Rattle.base_block.specs.Answers.{sum_paper, block_paper};
 ghost use Rattle.base_block.specs.Sheets.{LaidOut, Folded};
 
-use words::Refusal;
-
-#[derive(Clone, Copy)]
-pub enum Checksum {
-    Sum(u32),
-    Refused(Refusal),
-}
+use words::{Reason, Refusal};
 
 // Copies bytes 0 to 507 to a sheet, where they are 127 rows of four columns.
 fn lay_out(s: &[u8], sheet: &mut [u8])
     requires { (508 ≤ length s.now) × (508 ≤ length sheet.old) }
     ensures { LaidOut s.now sheet.old sheet.new }
 {
-    let mut i: usize = 0;
-    while i < 508 {
-        sheet[i] = s[i];
-        i += 1;
-    }
+    sheet[..508].copy_from_slice(&s[..508]);
 }
 
 // Folds the sheet between its first `rows` rows and as many below them: row upon row, so that each column is folded by itself.
@@ -34,10 +25,8 @@ fn fold(sheet: &mut [u8], rows: usize)
     ensures { Folded rows sheet.old sheet.new }
 {
     let half = 4 * rows;
-    let mut i: usize = 0;
-    while i < half {
-        sheet[i] = sheet[i] ^ sheet[half + i];
-        i += 1;
+    for i in 0..half {
+        sheet[i] ^= sheet[half + i];
     }
 }
 
@@ -56,13 +45,11 @@ fn xor_words(s: &[u8]) -> u32
     fold(&mut sheet, 4);
     fold(&mut sheet, 2);
     fold(&mut sheet, 1);
-    let first = sheet[0];
-    let second = sheet[1];
-    let third = sheet[2];
-    let fourth = sheet[3];
+    let [first, second, third, fourth, ..] = sheet;
     words::join4(first, second, third, fourth)
 }
 
+#[tactic(auto, unfolding(crate::specs::Checksum::mended))]
 fn mend(x: u32) -> u32
     ensures { result ≡ mended x }
 {
@@ -74,19 +61,20 @@ fn mend(x: u32) -> u32
 }
 
 // The checksum of the first 508 bytes of any slice.
-pub fn calculate_checksum(bytes: &[u8]) -> Checksum
+#[tactic(auto, unfolding(crate::specs::Checksum::checksum_of, crate::specs::Checksum::sum_of))]
+pub fn calculate_checksum(bytes: &[u8]) -> Result<u32, Refusal>
     ensures { sum_paper result ≡ checksum_of bytes.now }
 {
     if bytes.len() < 508 {
-        return Checksum::Refused(Refusal {
-            number: words::SHORT,
+        return Err(Refusal {
+            reason: Reason::Short,
             position: 0,
         });
     }
-    Checksum::Sum(mend(xor_words(bytes)))
+    Ok(mend(xor_words(bytes)))
 }
 
-#[derive(Clone, Copy)]
+#[derive(Clone, Copy, PartialEq, Eq)]
 pub enum FileType {
     Primary,
     TransactionLog,
@@ -94,7 +82,7 @@ pub enum FileType {
     UnknownType,
 }
 
-#[derive(Clone, Copy)]
+#[derive(Clone, Copy, PartialEq, Eq)]
 pub enum FileFormat {
     DirectMemoryLoad,
     UnknownFormat,
@@ -127,29 +115,29 @@ pub struct BaseBlock {
 // The length of a base block.
 const BLOCK_SIZE: usize = 4096;
 
-#[derive(Clone, Copy)]
-pub enum BlockAnswer {
-    Block(BaseBlock),
-    Refused(Refusal),
-}
+impl From<u32> for FileType {
+    ghost from_gives = { λ raw kind. kind ≡ type_of raw };
 
-fn file_type(raw: u32) -> FileType
-    ensures { result ≡ type_of raw }
-{
-    match raw {
-        0 => FileType::Primary,
-        1 => FileType::TransactionLog,
-        6 => FileType::TransactionLogNewFormat,
-        _ => FileType::UnknownType,
+    #[tactic(auto, unfolding(crate::specs::Block::type_of))]
+    fn from(raw: u32) -> FileType {
+        match raw {
+            0 => FileType::Primary,
+            1 => FileType::TransactionLog,
+            6 => FileType::TransactionLogNewFormat,
+            _ => FileType::UnknownType,
+        }
     }
 }
 
-fn file_format(raw: u32) -> FileFormat
-    ensures { result ≡ format_of raw }
-{
-    match raw {
-        1 => FileFormat::DirectMemoryLoad,
-        _ => FileFormat::UnknownFormat,
+impl From<u32> for FileFormat {
+    ghost from_gives = { λ raw format. format ≡ format_of raw };
+
+    #[tactic(auto, unfolding(crate::specs::Block::format_of))]
+    fn from(raw: u32) -> FileFormat {
+        match raw {
+            1 => FileFormat::DirectMemoryLoad,
+            _ => FileFormat::UnknownFormat,
+        }
     }
 }
 
@@ -158,25 +146,22 @@ fn fields(s: &[u8]) -> BaseBlock
     ensures { result ≡ fields_of s.now }
 {
     let file_type_raw = words::u32_at(s, 28);
-    let file_type = file_type(file_type_raw);
     let format_raw = words::u32_at(s, 32);
-    let format = file_format(format_raw);
-    let computed_checksum = mend(xor_words(s));
     BaseBlock {
         primary_sequence_number: words::u32_at(s, 4),
         secondary_sequence_number: words::u32_at(s, 8),
         last_modification_time: words::u64_at(s, 12),
         major_version: words::u32_at(s, 20),
         minor_version: words::u32_at(s, 24),
-        file_type,
+        file_type: FileType::from(file_type_raw),
         file_type_raw,
-        format,
+        format: FileFormat::from(format_raw),
         format_raw,
         root_cell_offset: words::i32_at(s, 36),
         hive_bins_data_size: words::u32_at(s, 40),
         clustering_factor: words::u32_at(s, 44),
         checksum: words::u32_at(s, 508),
-        computed_checksum,
+        computed_checksum: mend(xor_words(s)),
         flags: words::u32_at(s, 544),
         signature: words::u32_at(s, 564),
         last_reorganized_time: words::u64_at(s, 568),
@@ -185,33 +170,32 @@ fn fields(s: &[u8]) -> BaseBlock
     }
 }
 
-// The number of the first check that fails, 0 where none does, of what has a least length.
-fn fault(image: &[u8], least: usize) -> u32
-    ensures { result ≡ head_fault least image.now }
+// The first check that fails, of what has a least length.
+#[tactic(auto, unfolding(crate::specs::Block::head_fault))]
+fn fault(image: &[u8], least: usize) -> Option<Reason>
+    ensures { fault_number result ≡ head_fault least image.now }
 {
     if image.len() < least {
-        return words::SHORT;
+        return Some(Reason::Short);
     }
     let signature = words::u32_at(image, 0);
     if signature == 0x6667_6572 {
-        0
+        None
     } else {
-        words::BAD_SIGN
+        Some(Reason::BadSign)
     }
 }
 
 // The base block of any image. A wrong checksum is no refusal: the stored and the computed one stand side by side.
-pub fn read_base_block(image: &[u8]) -> BlockAnswer
+pub fn read_base_block(image: &[u8]) -> Result<BaseBlock, Refusal>
     ensures { block_paper result ≡ block_of image.now }
 {
-    let number = fault(image, BLOCK_SIZE);
-    if number == 0 {
-        BlockAnswer::Block(fields(image))
-    } else {
-        BlockAnswer::Refused(Refusal {
-            number,
+    match fault(image, BLOCK_SIZE) {
+        None => Ok(fields(image)),
+        Some(reason) => Err(Refusal {
+            reason,
             position: 0,
-        })
+        }),
     }
 }
 
@@ -220,11 +204,9 @@ fn block_part(image: &[u8], at: usize, n: usize) -> &[u8]
     requires { at ≤ 4096 }
     ensures { Part image.entry result (part_at image.now at) (part_of image.now at n) }
 {
-    let number = fault(image, BLOCK_SIZE);
-    if number == 0 {
-        words::part(image, at, n)
-    } else {
-        &image[0..0]
+    match fault(image, BLOCK_SIZE) {
+        None => words::part(image, at, n),
+        Some(_) => &image[0..0],
     }
 }
 

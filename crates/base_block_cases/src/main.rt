@@ -1,7 +1,7 @@
 // Checksums and base blocks at their boundaries, a labelled line for each case; `stdout` has what document 01 says of each.
 #![tactic(auto)]
 
-use base_block::{BaseBlock, BlockAnswer, Checksum, FileFormat, FileType};
+use base_block::{BaseBlock, FileFormat, FileType};
 use words::Refusal;
 
 fn text(s: &[u8]) {
@@ -14,12 +14,12 @@ fn decimal(n: u64) {
 }
 
 fn word(n: u32) {
-    decimal(n as u64);
+    decimal(u64::from(n));
 }
 
 fn hex(n: u32) {
     text(b" ");
-    io::print_hex(1, n as u64, 8);
+    io::print_hex(1, u64::from(n), 8);
 }
 
 fn signed(z: i32) {
@@ -27,62 +27,58 @@ fn signed(z: i32) {
     if z < 0 {
         text(b"-");
     }
-    io::print_decimal(1, words::magnitude(z) as u64);
+    io::print_decimal(1, u64::from(z.unsigned_abs()));
 }
 
 fn refused(f: Refusal) {
     text(b" refused");
-    word(f.number);
+    word(f.reason.number());
     decimal(f.position as u64);
 }
 
-fn store(image: &mut [u8], at: usize, x: u8) {
-    if at < image.len() {
-        image[at] = x;
+// Stores a word, as much of it as there is room for.
+fn put(image: &mut [u8], at: usize, x: u32) {
+    for (place, byte) in image.iter_mut().skip(at).zip(x.to_le_bytes()) {
+        *place = byte;
     }
 }
 
-// Stores a word.
-fn put(image: &mut [u8], at: usize, x: u32) {
-    if at < image.len() {
-        store(image, at, (x % 256) as u8);
-        store(image, at + 1, (x / 256 % 256) as u8);
-        store(image, at + 2, (x / 65536 % 256) as u8);
-        store(image, at + 3, (x / 16777216) as u8);
+// Stores words at their places.
+fn put_all(image: &mut [u8], words: &[(usize, u32)]) {
+    for (at, x) in words {
+        put(image, *at, *x);
     }
 }
 
 fn sum(label: &[u8], bytes: &[u8]) {
     text(label);
     match base_block::calculate_checksum(bytes) {
-        Checksum::Sum(x) => hex(x),
-        Checksum::Refused(f) => refused(f),
+        Ok(x) => hex(x),
+        Err(f) => refused(f),
     }
     text(b"\n");
 }
 
 fn file_type(kind: FileType) {
-    match kind {
-        FileType::Primary => text(b" primary"),
-        FileType::TransactionLog => text(b" log"),
-        FileType::TransactionLogNewFormat => text(b" new-log"),
-        FileType::UnknownType => text(b" unknown"),
-    }
+    text(match kind {
+        FileType::Primary => b" primary",
+        FileType::TransactionLog => b" log",
+        FileType::TransactionLogNewFormat => b" new-log",
+        FileType::UnknownType => b" unknown",
+    });
 }
 
 fn file_format(kind: FileFormat) {
-    match kind {
-        FileFormat::DirectMemoryLoad => text(b" direct"),
-        FileFormat::UnknownFormat => text(b" unknown"),
-    }
+    text(match kind {
+        FileFormat::DirectMemoryLoad => b" direct",
+        FileFormat::UnknownFormat => b" unknown",
+    });
 }
 
 fn kinds_of(b: BaseBlock) {
-    let kind = b.file_type;
-    file_type(kind);
+    file_type(b.file_type);
     word(b.file_type_raw);
-    let format = b.format;
-    file_format(format);
+    file_format(b.format);
     word(b.format_raw);
 }
 
@@ -112,11 +108,11 @@ fn extension_fields(b: BaseBlock) {
 fn block(label: &[u8], image: &[u8]) {
     text(label);
     match base_block::read_base_block(image) {
-        BlockAnswer::Block(b) => {
+        Ok(b) => {
             base_fields(b);
             extension_fields(b);
         }
-        BlockAnswer::Refused(f) => refused(f),
+        Err(f) => refused(f),
     }
     text(b"\n");
 }
@@ -129,8 +125,8 @@ fn kinds(kind: u32, format: u32) {
     put(&mut image, 32, format);
     text(b"kinds");
     match base_block::read_base_block(&image) {
-        BlockAnswer::Block(b) => kinds_of(b),
-        BlockAnswer::Refused(f) => refused(f),
+        Ok(b) => kinds_of(b),
+        Err(f) => refused(f),
     }
     text(b"\n");
 }
@@ -141,8 +137,8 @@ fn root(offset: u32) {
     put(&mut image, 36, offset);
     text(b"root");
     match base_block::read_base_block(&image) {
-        BlockAnswer::Block(b) => signed(b.root_cell_offset),
-        BlockAnswer::Refused(f) => refused(f),
+        Ok(b) => signed(b.root_cell_offset),
+        Err(f) => refused(f),
     }
     text(b"\n");
 }
@@ -151,10 +147,9 @@ fn root(offset: u32) {
 fn part(label: &[u8], p: &[u8]) {
     text(label);
     decimal(p.len() as u64);
-    let n = p.len();
-    if 0 < n {
-        decimal(words::byte_at(p, 0) as u64);
-        decimal(words::byte_at(p, n - 1) as u64);
+    if let (Some(first), Some(last)) = (p.first(), p.last()) {
+        decimal(u64::from(*first));
+        decimal(u64::from(*last));
     }
     text(b"\n");
 }
@@ -170,11 +165,8 @@ fn parts(image: &[u8]) {
 
 fn big_data(label: &[u8], cell: &[u8]) {
     text(label);
-    if cell_big_data::is_big_data_block(cell) {
-        text(b" yes\n");
-    } else {
-        text(b" no\n");
-    }
+    let yes = cell_big_data::is_big_data_block(cell);
+    text(if yes { b" yes\n" } else { b" no\n" });
 }
 
 fn sums() {
@@ -207,46 +199,46 @@ fn short_blocks() {
 }
 
 // The header of document 01's own example, but for its checksum.
-fn example(image: &mut [u8]) {
-    put(image, 4, 1);
-    put(image, 8, 1);
-    put(image, 20, 1);
-    put(image, 24, 5);
-    put(image, 32, 1);
-    put(image, 36, 32);
-    put(image, 40, 4096);
-    put(image, 44, 1);
-}
+const EXAMPLE: [(usize, u32); 8] = [
+    (4, 1),
+    (8, 1),
+    (20, 1),
+    (24, 5),
+    (32, 1),
+    (36, 32),
+    (40, 4096),
+    (44, 1),
+];
 
-fn extension(image: &mut [u8]) {
-    put(image, 12, 0x89AB_CDEF);
-    put(image, 16, 0x0123_4567);
-    put(image, 544, 2);
-    put(image, 564, 0x7374_7278);
-    put(image, 568, 1);
-    put(image, 572, 1);
-    put(image, 4088, 7);
-    put(image, 4092, 8);
-}
+const EXTENSION: [(usize, u32); 8] = [
+    (12, 0x89AB_CDEF),
+    (16, 0x0123_4567),
+    (544, 2),
+    (564, 0x7374_7278),
+    (568, 1),
+    (572, 1),
+    (4088, 7),
+    (4092, 8),
+];
 
 // The first and the last word of each part: its first byte is an odd number, and its last is one more.
-fn base_marks(image: &mut [u8]) {
-    put(image, 48, 0xFF00_0001);
-    put(image, 108, 0x0200_00FF);
-    put(image, 112, 0xFF00_0003);
-    put(image, 504, 0x0400_00FF);
-    put(image, 576, 0xFF00_000B);
-    put(image, 4084, 0x0C00_00FF);
-}
+const BASE_MARKS: [(usize, u32); 6] = [
+    (48, 0xFF00_0001),
+    (108, 0x0200_00FF),
+    (112, 0xFF00_0003),
+    (504, 0x0400_00FF),
+    (576, 0xFF00_000B),
+    (4084, 0x0C00_00FF),
+];
 
-fn id_marks(image: &mut [u8]) {
-    put(image, 512, 0xFF00_0005);
-    put(image, 524, 0x0600_00FF);
-    put(image, 528, 0xFF00_0007);
-    put(image, 540, 0x0800_00FF);
-    put(image, 548, 0xFF00_0009);
-    put(image, 560, 0x0A00_00FF);
-}
+const ID_MARKS: [(usize, u32); 6] = [
+    (512, 0xFF00_0005),
+    (524, 0x0600_00FF),
+    (528, 0xFF00_0007),
+    (540, 0x0800_00FF),
+    (548, 0xFF00_0009),
+    (560, 0x0A00_00FF),
+];
 
 fn blocks() {
     let mut image = [0u8; 4096];
@@ -254,20 +246,20 @@ fn blocks() {
     block(b"segf:", &image);
     put(&mut image, 0, 0x6667_6572);
     block(b"regf alone:", &image);
-    example(&mut image);
+    put_all(&mut image, &EXAMPLE);
     put(&mut image, 508, 0x6667_7556);
     block(b"the listing's example:", &image);
     put(&mut image, 508, 0x6667_7557);
     block(b"a wrong checksum:", &image);
-    extension(&mut image);
+    put_all(&mut image, &EXTENSION);
     block(b"with times and extension:", &image);
 }
 
 fn marked() {
     let mut image = [0u8; 4096];
     put(&mut image, 0, 0x6667_6572);
-    base_marks(&mut image);
-    id_marks(&mut image);
+    put_all(&mut image, &BASE_MARKS);
+    put_all(&mut image, &ID_MARKS);
     parts(&image);
     text(b"of a refused block:\n");
     put(&mut image, 0, 0x6667_6573);
@@ -283,19 +275,22 @@ fn main() {
 }
 
 fn more() {
-    kinds(0, 0);
-    kinds(1, 1);
-    kinds(2, 2);
-    kinds(5, 0x0FFF_FFFF);
-    kinds(6, 0xFFFF_FFFF);
-    kinds(7, 0x0100_0000);
-    kinds(0x0FFF_FFFF, 257);
-    kinds(0xFFFF_FFFF, 1);
-    kinds(0x0100_0000, 1);
-    root(0);
-    root(0x7FFF_FFFF);
-    root(0x8000_0000);
-    root(0xFFFF_FFFF);
+    for (kind, format) in [
+        (0, 0),
+        (1, 1),
+        (2, 2),
+        (5, 0x0FFF_FFFF),
+        (6, 0xFFFF_FFFF),
+        (7, 0x0100_0000),
+        (0x0FFF_FFFF, 257),
+        (0xFFFF_FFFF, 1),
+        (0x0100_0000, 1),
+    ] {
+        kinds(kind, format);
+    }
+    for offset in [0, 0x7FFF_FFFF, 0x8000_0000, 0xFFFF_FFFF] {
+        root(offset);
+    }
     big();
 }
 

@@ -14,10 +14,8 @@ use borrow.Author.Tests.{ltb-true, ltb-false, leb-true, leb-false, eqb-true, eqb
 use Rattle.words.specs.Refusals.{BAD_BIN, BAD_CELL}
 use Rattle.words.specs.Words.{little, word32, signed}
 use Rattle.words.specs.Paper.{success, refused, by}
-use Rattle.words.specs.declared.Refusal.{Refusal}
+use Rattle.bins_arriving.specs.declared.Numbered.{Numbered}
 use Rattle.hive_bin.specs.declared.BinTotals.{BinTotals}
-use Rattle.hive_bin.specs.declared.BinsAnswer.{BinsAnswer}
-use Rattle.hive_bin.specs.declared.BinsAnswer.TheVariants.{Totals, Refused}
 use Rattle.hive_bin.specs.Walk.{size_word, good_cell, good_header, good_bin, bins_in}
 use Rattle.hive_bin.specs.Totals.{answer_of, one_bin, cell_totals, together}
 use Rattle.hive_bin.proofs.Sums.{plus, plus_plus, none_plus, totals_eq}
@@ -28,6 +26,8 @@ use Rattle.bins_arriving.specs.Arrival.{due_at}
 use Rattle.bins_arriving.proofs.Bytes.{sum_fits, on_the_way, is_open, eat_kept}
 use Rattle.bins_arriving.proofs.Feeding.{feed-append}
 use Rattle.bins_arriving.proofs.Left.{left, left_cell, left_no_cell, left_bin, left_no_bin, left_all}
+use Rattle.std.specs.Prelude.{Ok, Err}
+use Rattle.std.specs.declared.result.Result.{Result}
 
 -- words of equal bytes
 little_is : (n : ℕ) (a b : List ℕ) (i k : ℕ) → ((j : ℕ) → j < n → get_or a (i + j) 0 ≡ get_or b (k + j) 0) → little n a i ≡ little n b k
@@ -56,7 +56,7 @@ module _ (from : ℕ) (c : List ℕ) where
     pub whole : answer_of (bins_in c) ≡ plus (success t) (left c s.place s.over)
 
   -- it is refused: as the whole check refuses, with the byte that makes the refusal due
-  pub record Closed (k : ℕ) (s : BinsSoFar) (f : Refusal) : Type 0 where
+  pub record Closed (k : ℕ) (s : BinsSoFar) (f : Numbered) : Type 0 where
     pub taken : s.taken ≤ k
     pub place : ℕ
     pub position : f.position ≡ from + place
@@ -67,14 +67,14 @@ module _ (from : ℕ) (c : List ℕ) where
     pub known : Open k s t
     pub rest : s.place ≡ s.over → s.place ≡ k → s.place < length c → 32 ≤ length c - s.place
 
-  abbrev pub Reached : ℕ → BinsSoFar → BinsAnswer → Type 0
-  Reached k s (Totals t) = Settled k s t
-  Reached k s (Refused f) = Closed k s f
+  abbrev pub Reached : ℕ → BinsSoFar → Result BinTotals Numbered → Type 0
+  Reached k s (Ok t) = Settled k s t
+  Reached k s (Err f) = Closed k s f
 
   -- the same before a rest too short for a header is judged
-  abbrev Judged : ℕ → BinsSoFar → BinsAnswer → Type 0
-  Judged k s (Totals t) = Open k s t
-  Judged k s (Refused f) = Closed k s f × (s.taken ≡ s.place → ⊥)
+  abbrev Judged : ℕ → BinsSoFar → Result BinTotals Numbered → Type 0
+  Judged k s (Ok t) = Open k s t
+  Judged k s (Err f) = Closed k s f × (s.taken ≡ s.place → ⊥)
 
   -- ---- a fault that is met
 
@@ -109,7 +109,7 @@ module _ (from : ℕ) (c : List ℕ) where
       go true e = absurd (let f = bin_facts c at (length c - at) e in omega arith)
       go false e = e
 
-  settles : {k : ℕ} {s : BinsSoFar} {t : BinTotals} → s.answer ≡ Totals t → Open k s t → Reached k (settle s) (settle s).answer
+  settles : {k : ℕ} {s : BinsSoFar} {t : BinTotals} → s.answer ≡ Ok t → Open k s t → Reached k (settle s) (settle s).answer
   unfolding settle
   settles {k} {s} {t} a o = go (too_short s) refl
     where
@@ -143,10 +143,10 @@ module _ (from : ℕ) (c : List ℕ) where
               omega arith)
           go_rest p q l false h = ltb-false _ _ h
 
-  settles_judged : (k : ℕ) (r : BinsSoFar) (a : BinsAnswer) → r.answer ≡ a → Judged k r a → Reached k (settle r) (settle r).answer
-  settles_judged k r (Totals t) e o = settles e o
-  settles_judged k r (Refused f) e j =
-      subst (λ (v : BinsSoFar). Reached k v v.answer) (is_open r (on_the_way r j.1) refl) (subst (Reached k r) (sym e) j.0)
+  settles_judged : (k : ℕ) (r : BinsSoFar) (a : Result BinTotals Numbered) → r.answer ≡ a → Judged k r a → Reached k (settle r) (settle r).answer
+  settles_judged k r (Ok t) e o = settles e o
+  settles_judged k r (Err f) e j =
+      subst (λ (v : BinsSoFar). Reached k v v.answer) (is_open r (on_the_way r j.1)) (subst (Reached k r) (sym e) j.0)
 
   -- ---- a byte
 
@@ -393,7 +393,7 @@ module _ (from : ℕ) (c : List ℕ) where
             go false g = (cell-bad g, cell-behind)
 
       -- a byte of a header, whole or not
-      header_comes : s.answer ≡ Totals t → Judged (k + 1) (header p t) (header p t).answer
+      header_comes : s.answer ≡ Ok t → Judged (k + 1) (header p t) (header p t).answer
       unfolding header put
       header_comes a = go (eqb s.place s.over) refl
         where
@@ -417,10 +417,10 @@ module _ (from : ℕ) (c : List ℕ) where
           go true e = bin (eqb-true s.place s.over e) _ refl
           go false e = cell (eqb-false s.place s.over e) _ refl
 
-    byte_comes : s.answer ≡ Totals t → Reached (k + 1) (eat s (get_or c k 0)) (eat s (get_or c k 0)).answer
+    byte_comes : s.answer ≡ Ok t → Reached (k + 1) (eat s (get_or c k 0)) (eat s (get_or c k 0)).answer
     unfolding eat
     byte_comes a =
-        subst (λ (b : BinsAnswer). Reached (k + 1) (eaten b s (get_or c k 0)) (eaten b s (get_or c k 0)).answer) (sym a)
+        subst (λ (b : Result BinTotals Numbered). Reached (k + 1) (eaten b s (get_or c k 0)) (eaten b s (get_or c k 0)).answer) (sym a)
         (settles_judged (k + 1) next _ refl (go (ltb s.taken s.place) refl))
       where
         next : BinsSoFar
@@ -453,10 +453,10 @@ module _ (from : ℕ) (c : List ℕ) where
         whole = sym (left_all c) ∙ sym (none_plus _);
       })
 
-  byte_on : length c < 2 ^ 64 → (k : ℕ) (s : BinsSoFar) → k < length c → (a : BinsAnswer) → s.answer ≡ a → Reached k s a
+  byte_on : length c < 2 ^ 64 → (k : ℕ) (s : BinsSoFar) → k < length c → (a : Result BinTotals Numbered) → s.answer ≡ a → Reached k s a
       → Reached (k + 1) (eat s (get_or c k 0)) (eat s (get_or c k 0)).answer
-  byte_on small k s l (Totals t) e r = byte_comes small r l e
-  byte_on small k s l (Refused f) e r =
+  byte_on small k s l (Ok t) e r = byte_comes small r l e
+  byte_on small k s l (Err f) e r =
       subst (λ (v : BinsSoFar). Reached (k + 1) v v.answer) (eat_kept s e (get_or c k 0))
       (subst (Reached (k + 1) s) (sym e)
       (record { taken = omega (arith, r.taken); place = r.place; position = r.position; due = r.due; whole = r.whole }))

@@ -3,13 +3,22 @@
 use Rattle.std.specs.Prelude.{ℕ, ◌+◌, ◌-◌, ◌^◌, List, [], ◌∷◌, Bool, cond, ◌&&◌, length, replicate, set, ltb, leb, eqb, nat_abs}
 use Rattle.words.specs.Refusals.{CUT_SHORT, BAD_BIN, BAD_CELL, PAST_END}
 use Rattle.words.specs.Words.{word32}
-use Rattle.words.specs.Paper.{Paper, success, refused, by, told}
+use Rattle.words.specs.Paper.{Told, Paper, success, refused, by, paper_of}
 use Rattle.hive_bin.specs.declared.BinTotals.{BinTotals}
-use Rattle.hive_bin.specs.declared.BinsAnswer.{BinsAnswer}
-use Rattle.hive_bin.specs.declared.BinsAnswer.TheVariants.{Totals, Refused}
 use Rattle.hive_bin.specs.Walk.{size_word, good_cell, good_header}
 use Rattle.hive_bin.specs.Totals.{no_totals, one_bin, cell_totals}
 use Rattle.bins_arriving.specs.declared.BinsSoFar.{BinsSoFar}
+use Rattle.std.specs.Prelude.{Ok, Err}
+use Rattle.std.specs.declared.result.Result.{Result}
+use Rattle.bins_arriving.specs.declared.Numbered.{Numbered}
+
+-- ---- what an answer says
+
+abbrev pub numbered : Numbered → Told
+numbered f = by f.number f.position
+
+abbrev pub arriving_paper : Result BinTotals Numbered → Paper BinTotals
+arriving_paper = paper_of (λ t. t) numbered
 
 -- ---- totals
 
@@ -32,7 +41,7 @@ added a b =
 
 -- before the first part: nothing is judged, and a bin's header is awaited at the base
 abbrev pub begun : ℕ → ℕ → BinsSoFar
-begun base size = record { base = base; size = size; taken = 0; place = 0; over = 0; head = replicate 12 0; answer = Totals no_totals }
+begun base size = record { base = base; size = size; taken = 0; place = 0; over = 0; head = replicate 12 0; answer = Ok no_totals }
 
 -- so many bytes more
 abbrev pub on : BinsSoFar → ℕ → BinsSoFar
@@ -40,7 +49,7 @@ on s n = record { base = s.base; size = s.size; taken = s.taken + n; place = s.p
 
 -- another header awaited, in a bin that ends at a place; and other totals
 abbrev pub await : BinsSoFar → ℕ → ℕ → BinTotals → BinsSoFar
-await s place over t = record { base = s.base; size = s.size; taken = s.taken; place = place; over = over; head = s.head; answer = Totals t }
+await s place over t = record { base = s.base; size = s.size; taken = s.taken; place = place; over = over; head = s.head; answer = Ok t }
 
 abbrev pub refuse : BinsSoFar → ℕ → ℕ → BinsSoFar
 refuse s n p =
@@ -51,7 +60,7 @@ refuse s n p =
       place = s.place;
       over = s.over;
       head = s.head;
-      answer = Refused (record { number = n; position = p });
+      answer = Err (record { number = n; position = p });
     }
 
 -- ---- "a rest too short for a header with the part that ends the bin before it or with the first part"
@@ -100,9 +109,9 @@ header s t = cond (leb (needed s) (s.taken - s.place)) (cond (eqb s.place s.over
 -- ---- one byte, and one after another
 
 -- a byte inside a cell is passed over, one of a header is kept; "After a refusal every later part gives the same refusal"
-abbrev pub eaten : BinsAnswer → BinsSoFar → ℕ → BinsSoFar
-eaten (Refused f) s x = s
-eaten (Totals t) s x = settle (cond (ltb s.taken s.place) (on s 1) (header (put s x) t))
+abbrev pub eaten : Result BinTotals Numbered → BinsSoFar → ℕ → BinsSoFar
+eaten (Err f) s x = s
+eaten (Ok t) s x = settle (cond (ltb s.taken s.place) (on s 1) (header (put s x) t))
 
 unfoldable pub eat : BinsSoFar → ℕ → BinsSoFar
 eat s x = eaten s.answer s x
@@ -115,17 +124,17 @@ feed s (x ∷ xs) = feed (eat s x) xs
 
 -- "18 PAST END, where a part exceeds what remains, given before any byte of that part is looked at", at position 0; behind a refusal that
 -- is kept, and before the judgement of a rest too short for a header
-abbrev pub part_on : BinsAnswer → BinsSoFar → List ℕ → BinsSoFar
-part_on (Refused f) s xs = s
-part_on (Totals t) s xs = cond (ltb (s.size - s.taken) (length xs)) (refuse s PAST_END 0) (feed (settle s) xs)
+abbrev pub part_on : Result BinTotals Numbered → BinsSoFar → List ℕ → BinsSoFar
+part_on (Err f) s xs = s
+part_on (Ok t) s xs = cond (ltb (s.size - s.taken) (length xs)) (refuse s PAST_END 0) (feed (settle s) xs)
 
 unfoldable pub part_taken : BinsSoFar → List ℕ → BinsSoFar
 part_taken s xs = part_on s.answer s xs
 
 -- "8 is given only when the end is declared early", at the base
-abbrev pub end_of : BinsAnswer → BinsSoFar → Paper BinTotals
-end_of (Refused f) s = refused (told f)
-end_of (Totals t) s = cond (ltb s.taken s.size) (refused (by CUT_SHORT s.base)) (success t)
+abbrev pub end_of : Result BinTotals Numbered → BinsSoFar → Paper BinTotals
+end_of (Err f) s = refused (numbered f)
+end_of (Ok t) s = cond (ltb s.taken s.size) (refused (by CUT_SHORT s.base)) (success t)
 
 unfoldable pub ended : BinsSoFar → Paper BinTotals
 ended s = end_of s.answer s
@@ -133,16 +142,16 @@ ended s = end_of s.answer s
 -- ---- what the code passes over at once
 
 -- so many of `room` bytes: those inside a cell, and after a refusal all
-abbrev pub passable_on : BinsAnswer → BinsSoFar → ℕ → ℕ
-passable_on (Refused f) s room = room
-passable_on (Totals t) s room = cond (ltb (s.place - s.taken) room) (s.place - s.taken) room
+abbrev pub passable_on : Result BinTotals Numbered → BinsSoFar → ℕ → ℕ
+passable_on (Err f) s room = room
+passable_on (Ok t) s room = cond (ltb (s.place - s.taken) room) (s.place - s.taken) room
 
 unfoldable pub passable : BinsSoFar → ℕ → ℕ
 passable s room = passable_on s.answer s room
 
-abbrev pub pass_on : BinsAnswer → BinsSoFar → ℕ → BinsSoFar
-pass_on (Refused f) s n = s
-pass_on (Totals t) s n = settle (on s n)
+abbrev pub pass_on : Result BinTotals Numbered → BinsSoFar → ℕ → BinsSoFar
+pass_on (Err f) s n = s
+pass_on (Ok t) s n = settle (on s n)
 
 unfoldable pub pass : BinsSoFar → ℕ → BinsSoFar
 pass s n = pass_on s.answer s n

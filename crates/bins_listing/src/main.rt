@@ -2,10 +2,9 @@
 #![tactic(auto)]
 
 mod bins;
-mod console;
-mod totals;
+
+use hive_console::stop;
 
 fn main(rt: HostRuntime) {
-    let mut input = rt.stdin();
-    bins::list_input(&mut input);
+    stop::told(bins::list(&mut rt.stdin()));
 }

@@ -6,20 +6,24 @@ use Prim.Native.Nat.{ℕ, ◌+◌, ◌≤◌, ◌<◌}
 use native.Mathlib.Decide.{dec_le}
 use native.Mathlib.Omega.{arith}
 use lib.ListN.{length}
-use Rattle.words.specs.Refusals.{OUTSIDE, CUT_SHORT}
+use Rattle.words.specs.declared.Reason.TheVariants.{Outside, CutShort}
 use Rattle.cell.specs.Cells.{magnitude_at, size_at, cell_at, cell_paper}
 use Rattle.cell.specs.Exactly.{refusal_at, Whole, Cut, Exactly, Reads}
 use Rattle.cell.specs.declared.CellSize.{CellSize}
-use Rattle.cell.specs.declared.CellAnswer.{CellAnswer}
-use Rattle.cell.specs.declared.CellAnswer.TheVariants.{Held, TooSmall, Refused}
+use Rattle.cell.specs.declared.Fit.TheVariants.{Held, TooSmall}
 use Rattle.cell.proofs.Cells.{cell_outside, cell_no_word, cell_passes, cell_small, cell-held}
 use Rattle.cell.proofs.Papers.{paper_injective}
+use Rattle.std.specs.Prelude.{Ok, Err}
+use Rattle.std.specs.declared.result.Result.{Result}
+use Rattle.cell.specs.declared.Fit.{Fit}
+use Rattle.words.specs.declared.Refusal.{Refusal}
+use Rattle.words.specs.Paper.{number_of}
 
 -- the four answers by a number, which tells them apart
-abbrev rank : CellAnswer → ℕ
-rank (Held z) = 0
-rank (TooSmall z) = 1
-rank (Refused f) = f.number
+abbrev rank : (Result Fit Refusal) → ℕ
+rank (Ok (Held z)) = 0
+rank (Ok (TooSmall z)) = 1
+rank (Err f) = number_of f.reason
 
 module _ (image : List ℕ) (p least : ℕ) where
   -- one of four holds of any input
@@ -39,61 +43,61 @@ module _ (image : List ℕ) (p least : ℕ) where
       go (yes i) (yes w) (yes m) (no l) = is_small ((w, m), omega arith)
       go (yes i) (yes w) (yes m) (yes l) = is_held ((w, m), l)
 
-  abbrev answer_of : Which → CellAnswer
-  answer_of (is_outside h) = refusal_at OUTSIDE p
-  answer_of (is_cut h) = refusal_at CUT_SHORT p
-  answer_of (is_small h) = TooSmall (size_at image p)
-  answer_of (is_held h) = Held (size_at image p)
+  abbrev answer_of : Which → (Result Fit Refusal)
+  answer_of (is_outside h) = refusal_at Outside p
+  answer_of (is_cut h) = refusal_at CutShort p
+  answer_of (is_small h) = Ok (TooSmall (size_at image p))
+  answer_of (is_held h) = Ok (Held (size_at image p))
 
-  module _ (a : CellAnswer) (q : cell_paper a ≡ cell_at image p least) where
+  module _ (a : (Result Fit Refusal)) (q : cell_paper a ≡ cell_at image p least) where
     -- its answer is given
-    cut_given : Cut image p → a ≡ refusal_at CUT_SHORT p
-    cut_given (i, inl w) = paper_injective a (refusal_at CUT_SHORT p) (q ∙ sym (cell_no_word image p least i (omega arith)))
+    cut_given : Cut image p → a ≡ refusal_at CutShort p
+    cut_given (i, inl w) = paper_injective a (refusal_at CutShort p) (q ∙ sym (cell_no_word image p least i (omega arith)))
     cut_given (i, inr m) = go (dec_le (p + 4) (length image))
       where
-        go : Dec (p + 4 ≤ length image) → a ≡ refusal_at CUT_SHORT p
-        go (no w) = paper_injective a (refusal_at CUT_SHORT p) (q ∙ sym (cell_no_word image p least i (omega arith)))
-        go (yes w) = paper_injective a (refusal_at CUT_SHORT p) (q ∙ sym (cell_passes image p least i (omega arith) refl (omega arith)))
+        go : Dec (p + 4 ≤ length image) → a ≡ refusal_at CutShort p
+        go (no w) = paper_injective a (refusal_at CutShort p) (q ∙ sym (cell_no_word image p least i (omega arith)))
+        go (yes w) = paper_injective a (refusal_at CutShort p) (q ∙ sym (cell_passes image p least i (omega arith) refl (omega arith)))
 
     given : (w : Which) → a ≡ answer_of w
-    given (is_outside h) = paper_injective a (refusal_at OUTSIDE p) (q ∙ sym (cell_outside image p least h))
+    given (is_outside h) = paper_injective a (refusal_at Outside p) (q ∙ sym (cell_outside image p least h))
     given (is_cut h) = cut_given h
     given (is_small ((w, m), l)) =
-        paper_injective a (TooSmall (size_at image p))
+        paper_injective a (Ok (TooSmall (size_at image p)))
         (q ∙ sym (cell_small image p least (omega arith) (omega arith) refl (omega arith) l))
     given (is_held ((w, m), l)) =
-        paper_injective a (Held (size_at image p))
+        paper_injective a (Ok (Held (size_at image p)))
         (q ∙ sym (cell-held image p least (omega arith) (omega arith) refl (omega arith) l))
 
     -- and its sentence holds where it is given
-    told : (w : Which) {b : CellAnswer} → a ≡ b → rank (answer_of w) ≡ rank b
+    told : (w : Which) {b : (Result Fit Refusal)} → a ≡ b → rank (answer_of w) ≡ rank b
     told w e = ap rank (sym (given w) ∙ e)
 
-    of_outside : Which → a ≡ refusal_at OUTSIDE p → length image < p
+    of_outside : Which → a ≡ refusal_at Outside p → length image < p
     of_outside (is_outside h) e = h
     of_outside (is_cut h) e = absurd (omega (arith, told (is_cut h) e))
     of_outside (is_small h) e = absurd (omega (arith, told (is_small h) e))
     of_outside (is_held h) e = absurd (omega (arith, told (is_held h) e))
 
-    of_cut : Which → a ≡ refusal_at CUT_SHORT p → Cut image p
+    of_cut : Which → a ≡ refusal_at CutShort p → Cut image p
     of_cut (is_outside h) e = absurd (omega (arith, told (is_outside h) e))
     of_cut (is_cut h) e = h
     of_cut (is_small h) e = absurd (omega (arith, told (is_small h) e))
     of_cut (is_held h) e = absurd (omega (arith, told (is_held h) e))
 
-    of_small : {z : CellSize} → Which → a ≡ TooSmall z → Whole image p × (magnitude_at image p < least)
+    of_small : {z : CellSize} → Which → a ≡ Ok (TooSmall z) → Whole image p × (magnitude_at image p < least)
     of_small (is_outside h) e = absurd (omega (arith, told (is_outside h) e))
     of_small (is_cut h) e = absurd (omega (arith, told (is_cut h) e))
     of_small (is_small h) e = h
     of_small (is_held h) e = absurd (omega (arith, told (is_held h) e))
 
-    of_held : {z : CellSize} → Which → a ≡ Held z → Whole image p × (least ≤ magnitude_at image p)
+    of_held : {z : CellSize} → Which → a ≡ Ok (Held z) → Whole image p × (least ≤ magnitude_at image p)
     of_held (is_outside h) e = absurd (omega (arith, told (is_outside h) e))
     of_held (is_cut h) e = absurd (omega (arith, told (is_cut h) e))
     of_held (is_small h) e = absurd (omega (arith, told (is_small h) e))
     of_held (is_held h) e = h
 
-    one_of : (w : Which) → (a ≡ refusal_at OUTSIDE p) ⊎ (a ≡ refusal_at CUT_SHORT p) ⊎ (a ≡ TooSmall (size_at image p)) ⊎ (a ≡ Held (size_at image p))
+    one_of : (w : Which) → (a ≡ refusal_at Outside p) ⊎ (a ≡ refusal_at CutShort p) ⊎ (a ≡ Ok (TooSmall (size_at image p))) ⊎ (a ≡ Ok (Held (size_at image p)))
     one_of (is_outside h) = inl (given (is_outside h))
     one_of (is_cut h) = inr (inl (given (is_cut h)))
     one_of (is_small h) = inr (inr (inl (given (is_small h))))
@@ -111,7 +115,7 @@ module _ (image : List ℕ) (p least : ℕ) where
 
     -- ---- for a reader of the cell
 
-    pub held_reads : {z : CellSize} → a ≡ Held z → Reads image p least z
+    pub held_reads : {z : CellSize} → a ≡ Ok (Held z) → Reads image p least z
     held_reads {z} e =
         let h = of_held which e in
         let s : z ≡ size_at image p = same (sym e ∙ given (is_held h)) in
@@ -120,10 +124,10 @@ module _ (image : List ℕ) (p least : ℕ) where
         let l = h.1 in
         record { size = s; enough = omega arith; inside = omega arith; readable = omega arith }
       where
-        same : {y : CellSize} → Held z ≡ Held y → z ≡ y
+        same : {y : CellSize} → ◌≡◌ {A = Result Fit Refusal} (Ok (Held z)) (Ok (Held y)) → z ≡ y
         same x = cc
 
-    pub small_whole : {z : CellSize} → a ≡ TooSmall z → (z ≡ size_at image p) × Whole image p × (z.magnitude < least)
+    pub small_whole : {z : CellSize} → a ≡ Ok (TooSmall z) → (z ≡ size_at image p) × Whole image p × (z.magnitude < least)
     small_whole {z} e =
         let h = of_small which e in
         let s : z ≡ size_at image p = same (sym e ∙ given (is_small h)) in
@@ -131,5 +135,5 @@ module _ (image : List ℕ) (p least : ℕ) where
         let l = h.1 in
         (s, h.0, omega arith)
       where
-        same : {y : CellSize} → TooSmall z ≡ TooSmall y → z ≡ y
+        same : {y : CellSize} → ◌≡◌ {A = Result Fit Refusal} (Ok (TooSmall z)) (Ok (TooSmall y)) → z ≡ y
         same x = cc

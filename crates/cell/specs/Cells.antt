@@ -4,10 +4,12 @@ use Rattle.std.specs.Prelude.{ℕ, ◌-◌, List, Bool, cond, ltb, pos, nat_abs,
 use Rattle.std.specs.Int.Signed.{lt_z}
 use Rattle.words.specs.Words.{word32, signed}
 use Rattle.words.specs.Refusals.{OUTSIDE, CUT_SHORT}
-use Rattle.words.specs.Paper.{Paper, success, refused, by, told}
+use Rattle.words.specs.Paper.{Paper, success, refused, by, told, paper_of}
 use Rattle.cell.specs.declared.CellSize.{CellSize}
-use Rattle.cell.specs.declared.CellAnswer.{CellAnswer}
-use Rattle.cell.specs.declared.CellAnswer.TheVariants.{Held, TooSmall, Refused}
+use Rattle.cell.specs.declared.Fit.TheVariants.{Held, TooSmall}
+use Rattle.std.specs.declared.result.Result.{Result}
+use Rattle.cell.specs.declared.Fit.{Fit}
+use Rattle.words.specs.declared.Refusal.{Refusal}
 
 -- ---- the size word that a cell begins with (the specification: "size 0 (signed)")
 
@@ -43,7 +45,9 @@ cell_at image p least =
     (success (held (size_at image p))))))
 
 -- what the code's answer says
-abbrev pub cell_paper : CellAnswer → Paper Cell
-cell_paper (Held z) = success (held z)
-cell_paper (TooSmall z) = success (too_small z)
-cell_paper (Refused f) = refused (told f)
+abbrev pub fit_of : Fit → Cell
+fit_of (Held z) = held z
+fit_of (TooSmall z) = too_small z
+
+abbrev pub cell_paper : Result Fit Refusal → Paper Cell
+cell_paper = paper_of fit_of told

@@ -2,10 +2,10 @@
 #![tactic(auto)]
 
 ghost use Rattle.std.specs.Prelude.{◌≡◌};
-ghost use Rattle.words.specs.Paper.{refused, by};
+ghost use Rattle.words.specs.Paper.{refused, by, number_of};
 ghost use Rattle.cell.specs.Cells.{size_at, cell_at, cell_paper};
 
-use words::Refusal;
+use words::{Reason, Refusal};
 
 // The bytes of a size word.
 const SIZE_WORD: usize = 4;
@@ -17,12 +17,11 @@ pub struct CellSize {
     pub allocated: bool,
 }
 
-// A cell of at least so many bytes, a cell that is too small, or why there is none.
+// A cell of at least so many bytes, or a cell that is too small.
 #[derive(Clone, Copy)]
-pub enum CellAnswer {
+pub enum Fit {
     Held(CellSize),
     TooSmall(CellSize),
-    Refused(Refusal),
 }
 
 // The size word at a position.
@@ -38,30 +37,30 @@ fn size_at(image: &[u8], position: usize) -> CellSize
 }
 
 // A refusal of the cell at a position.
-fn refuse(number: u32, position: usize) -> CellAnswer
-    ensures { cell_paper result ≡ refused (by number position) }
+fn refuse(reason: Reason, position: usize) -> Result<Fit, Refusal>
+    ensures { cell_paper result ≡ refused (by (number_of reason) position) }
 {
-    CellAnswer::Refused(Refusal { number, position })
+    Err(Refusal { reason, position })
 }
 
 // The cell at a position, for a reader that needs the first `least` bytes of it, its size word among them.
-pub fn cell_at(image: &[u8], position: usize, least: usize) -> CellAnswer
+pub fn cell_at(image: &[u8], position: usize, least: usize) -> Result<Fit, Refusal>
     ensures { cell_paper result ≡ cell_at image.now position least }
 {
     if image.len() < position {
-        return refuse(words::OUTSIDE, position);
+        return refuse(Reason::Outside, position);
     }
     let left = image.len() - position;
     if left < SIZE_WORD {
-        return refuse(words::CUT_SHORT, position);
+        return refuse(Reason::CutShort, position);
     }
     let cell = size_at(image, position);
     let size = cell.magnitude as usize;
     if left < size {
-        return refuse(words::CUT_SHORT, position);
+        return refuse(Reason::CutShort, position);
     }
     if size < least {
-        return CellAnswer::TooSmall(cell);
+        return Ok(Fit::TooSmall(cell));
     }
-    CellAnswer::Held(cell)
+    Ok(Fit::Held(cell))
 }

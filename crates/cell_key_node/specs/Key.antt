@@ -2,11 +2,11 @@
 use Rattle.std.specs.Prelude.{ℕ, ◌+◌, List, take, drop, pos}
 use Rattle.std.specs.Int.Signed.{lt_z}
 use Rattle.words.specs.Words.{word16, word32, word64, signed}
-use Rattle.words.specs.Paper.{Paper, success, refused, told, checked, handed, handed_at}
+use Rattle.words.specs.Paper.{Paper, told, paper_of, checked, handed, handed_at}
 use Rattle.cell_key_node.specs.Records.{size_of, fault_at}
 use Rattle.cell_key_node.specs.declared.KeyNode.{KeyNode}
-use Rattle.cell_key_node.specs.declared.KeyAnswer.{KeyAnswer}
-use Rattle.cell_key_node.specs.declared.KeyAnswer.TheVariants.{Key, Refused}
+use Rattle.std.specs.declared.result.Result.{Result}
+use Rattle.words.specs.declared.Refusal.{Refusal}
 
 -- the fixed part is 80 bytes, "nk" stands at 4, the name's length at 76
 unfoldable pub key_fault : List ℕ → ℕ → ℕ
@@ -71,6 +71,5 @@ unfoldable pub key_slack_at : List ℕ → ℕ → ℕ
 key_slack_at image position = handed_at (key_fault image position) (position + (80 + word16 (drop position image) 76))
 
 -- what the code's answer says
-abbrev pub key_paper : KeyAnswer → Paper KeyNode
-key_paper (Key k) = success k
-key_paper (Refused f) = refused (told f)
+abbrev pub key_paper : Result KeyNode Refusal → Paper KeyNode
+key_paper = paper_of (λ k. k) told

@@ -1,14 +1,15 @@
 -- Document 01, "Value lists and lookup": the value list of a key record.
 use Rattle.std.specs.Prelude.{ℕ, zero, suc, ◌+◌, ◌*◌, List, [], ◌∷◌, ◌++◌, cond, length, drop, ltb, leb, eqb, ℤ}
 use Rattle.words.specs.Words.{word32, above_zero}
-use Rattle.words.specs.Paper.{Paper, success, refused, by, told, told_of_room}
+use Rattle.words.specs.Paper.{Paper, success, refused, by, told, told_of_room, paper_of}
 use Rattle.words.specs.Refusals.{NO_LIST, TOO_MANY, OUTSIDE, CUT_SHORT}
 use Rattle.words.specs.Buffers.{needing, in_room, Answered}
 use Rattle.sub_key_walk.specs.Answers.{COUNT_LIMIT}
-use Rattle.cell_key_node.specs.declared.PlaceAnswer.{PlaceAnswer}
-use Rattle.cell_key_node.specs.declared.PlaceAnswer.TheVariants.{Nothing, Place, Refused as NoPlace}
-use Rattle.cell_key_node.specs.declared.ValueListAnswer.{ValueListAnswer}
-use Rattle.cell_key_node.specs.declared.ValueListAnswer.TheVariants.{Listed, Refused as NoList}
+use Rattle.std.specs.declared.result.Result.{Result}
+use Rattle.std.specs.declared.option.Option.{Option}
+use Rattle.words.specs.declared.Refusal.{Refusal}
+use Rattle.words.specs.declared.RoomRefusal.{RoomRefusal}
+use Rattle.std.specs.declared.option.Option.TheVariants.{Some, None}
 
 -- where a list stands: there is none, or it is at a position
 pub data Placed : Type 0 where
@@ -33,10 +34,12 @@ place_of image base count offset =
     (success (at (position_of base offset))))))))
 
 -- what the code's answer says
-abbrev pub place_paper : PlaceAnswer → Paper Placed
-place_paper Nothing = success nowhere
-place_paper (Place p) = success (at p)
-place_paper (NoPlace f) = refused (told f)
+abbrev pub placed : Option ℕ → Placed
+placed None = nowhere
+placed (Some p) = at p
+
+abbrev pub place_paper : Result (Option ℕ) Refusal → Paper Placed
+place_paper = paper_of placed told
 
 -- the number of entries, without regard to the room
 abbrev pub counted : ℕ → Paper Placed → Paper ℕ
@@ -67,11 +70,10 @@ unfoldable pub entries_of : List ℕ → ℕ → ℕ → ℤ → List ℕ
 entries_of image base count offset = row_at image count (place_of image base count offset)
 
 -- what the code's answer says
-abbrev pub value_list_paper : ValueListAnswer → Paper ℕ
-value_list_paper (Listed n) = success n
-value_list_paper (NoList f) = refused (told_of_room f)
+abbrev pub value_list_paper : Result ℕ RoomRefusal → Paper ℕ
+value_list_paper = paper_of (λ n. n) told_of_room
 
 -- the answer r of a value list, and the buffer's contents before and after it
-abbrev pub ListAnswered : List ℕ → ℕ → ℕ → ℤ → List ℕ → ValueListAnswer → List ℕ → Type 0
+abbrev pub ListAnswered : List ℕ → ℕ → ℕ → ℤ → List ℕ → Result ℕ RoomRefusal → List ℕ → Type 0
 ListAnswered image base count offset old r new =
     Answered (value_list_paper r) (value_list_of image base count offset (length old)) (entries_of image base count offset) old new

@@ -2,26 +2,34 @@
 // numbers. The checks of a record are shared with the value records.
 #![tactic(auto)]
 
-ghost use Rattle.std.specs.Prelude.{◌≡◌, ◌≤◌, ◌++◌, length, drop};
-ghost use Rattle.words.specs.Paper.{verdict_paper};
+ghost use Rattle.std.specs.Prelude.{◌≡◌, ◌+◌, ◌≤◌, ◌++◌, length, drop};
+ghost use Rattle.words.specs.Paper.{verdict_paper, fault_number};
 ghost use Rattle.words.specs.Parts.{Part};
 ghost use Rattle.cell_key_node.specs.Records.{size_of, cell_fault, fault_at, record_at};
 ghost use Rattle.cell_key_node.specs.Key.{key_of, key_at, key_paper, key_name, key_name_at, key_slack, key_slack_at};
 ghost use Rattle.cell_key_node.specs.ValueList.{place_of, place_paper, up_to, entry_of, ListAnswered};
 
 use sub_key_walk::COUNT_LIMIT;
-use words::{Refusal, RoomRefusal, Verdict};
+use words::{Reason, Refusal, RoomRefusal};
 
-// The fixed part of a key record, its signature "nk", and the place of its name's length.
-const FIXED: usize = 80;
+// How a record is laid out: the bytes of its fixed part, its signature, and the place of its name's length.
+#[derive(Clone, Copy)]
+struct Layout {
+    fixed: usize,
+    signature: u16,
+    name_at: usize,
+}
 
-const SIGNATURE: u16 = 0x6B6E;
-
-const NAME_SIZE_AT: usize = 76;
+// Of a key record: 80 bytes, "nk", and its name's length at 76.
+const KEY: Layout = Layout {
+    fixed: 80,
+    signature: 0x6B6E,
+    name_at: 76,
+};
 
 // A key record: where it stands in the image, and the base that offsets are relative to; then its numbers, in the order in which they
 // stand. `allocated` is the sign of its size.
-#[derive(Clone, Copy)]
+#[derive(Clone, Copy, PartialEq, Eq)]
 pub struct KeyNode {
     pub position: usize,
     pub base: u32,
@@ -48,96 +56,78 @@ pub struct KeyNode {
     pub class_name_size: u16,
 }
 
-// The record, or why there is none.
-#[derive(Clone, Copy)]
-pub enum KeyAnswer {
-    Key(KeyNode),
-    Refused(Refusal),
-}
-
-// Nothing for a count of 0, the position of a value list, or why there is none.
-#[derive(Clone, Copy)]
-pub enum PlaceAnswer {
-    Nothing,
-    Place(usize),
-    Refused(Refusal),
-}
-
-// The number of entries written, or why there are none.
-#[derive(Clone, Copy)]
-pub enum ValueListAnswer {
-    Listed(u32),
-    Refused(RoomRefusal),
-}
-
 // The magnitude of the size word that a cell begins with.
+#[tactic(auto, using(words::proofs::Signed::held), unfolding(crate::specs::Records::size_of))]
 fn size_of(cell: &[u8]) -> u32
     ensures { result ≡ size_of cell.now }
 {
-    let size = words::i32_at(cell, 0);
-    words::magnitude(size)
+    words::magnitude(words::i32_at(cell, 0))
 }
 
-// The first check that a cell fails, by the number of its refusal; 0 where it fails none.
-fn cell_fault(cell: &[u8], fixed: usize, signature: u16, name_at: usize) -> u32
-    ensures { result ≡ cell_fault cell.now fixed signature name_at }
+// The first check that a cell fails, where it fails one.
+#[tactic(auto, unfolding(crate::specs::Records::cell_fault))]
+fn cell_fault(cell: &[u8], layout: Layout) -> Option<Reason>
+    ensures { fault_number result ≡ cell_fault cell.now layout.fixed layout.signature layout.name_at }
 {
-    if cell.len() < fixed {
-        return words::SHORT;
+    if cell.len() < layout.fixed {
+        return Some(Reason::Short);
     }
     let size = size_of(cell) as usize;
-    if size < fixed {
-        return words::BAD_SIZE;
+    if size < layout.fixed || cell.len() < size {
+        return Some(Reason::BadSize);
     }
-    if cell.len() < size {
-        return words::BAD_SIZE;
+    if words::u16_at(cell, 4) != layout.signature {
+        return Some(Reason::BadSign);
     }
-    let found = words::u16_at(cell, 4);
-    if found != signature {
-        return words::BAD_SIGN;
+    let name = words::u16_at(cell, layout.name_at) as usize;
+    if size < layout.fixed + name {
+        return Some(Reason::BadName);
     }
-    let name = words::u16_at(cell, name_at) as usize;
-    let end = fixed + name;
-    if size < end {
-        return words::BAD_NAME;
-    }
-    0
+    None
 }
 
-// The first check that the record at a position fails, by the number of its refusal, or 0: of a record with so large a fixed
-// part, a signature, and the length of its name at a place of it.
-fn record_fault(image: &[u8], position: usize, fixed: usize, signature: u16, name_at: usize) -> u32
-    ensures { result ≡ fault_at image.now position fixed signature name_at }
+// The first check that the record at a position fails, where it fails one.
+#[tactic(auto, unfolding(crate::specs::Records::fault_at))]
+fn record_fault(image: &[u8], position: usize, layout: Layout) -> Option<Reason>
+    ensures { fault_number result ≡ fault_at image.now position layout.fixed layout.signature layout.name_at }
 {
     if image.len() < position {
-        return words::OUTSIDE;
+        return Some(Reason::Outside);
     }
-    let cell = words::from(image, position);
-    cell_fault(cell, fixed, signature, name_at)
+    cell_fault(words::from(image, position), layout)
 }
 
-// The checks of the record at a position, for records of both kinds: the first that fails refuses it, at its position.
+// The checks of the record at a position, of a layout: the first that fails refuses it, at its position.
+#[tactic(auto, using(words::proofs::Papers::fault_refused, words::proofs::Papers::checked_good), unfolding(crate::specs::Records::record_at))]
+fn check(image: &[u8], position: usize, layout: Layout) -> Result<(), Refusal>
+    ensures { verdict_paper result ≡ record_at image.now position layout.fixed layout.signature layout.name_at }
+{
+    match record_fault(image, position, layout) {
+        None => Ok(()),
+        Some(reason) => Err(Refusal { reason, position }),
+    }
+}
+
+// The same for records of both kinds: with so large a fixed part, a signature, and the length of the name at a place.
 pub fn check_record(
     image: &[u8],
     position: usize,
     fixed: usize,
     signature: u16,
     name_at: usize,
-) -> Verdict
+) -> Result<(), Refusal>
     ensures { verdict_paper result ≡ record_at image.now position fixed signature name_at }
 {
-    let fault = record_fault(image, position, fixed, signature, name_at);
-    if fault == 0 {
-        Verdict::Whole
-    } else {
-        Verdict::Refused(Refusal {
-            number: fault,
-            position: position,
-        })
-    }
+    let layout = Layout {
+        fixed,
+        signature,
+        name_at,
+    };
+    check(image, position, layout)
 }
 
 // The key record of a cell that stands at a position, with a base.
+#[tactic(auto, using(words::proofs::Signed::held), unfolding(crate::specs::Key::key_of))]
 fn key_in(cell: &[u8], position: usize, base: u32) -> KeyNode
     ensures { result ≡ key_of position base cell.now }
 {
@@ -145,7 +135,7 @@ fn key_in(cell: &[u8], position: usize, base: u32) -> KeyNode
     KeyNode {
         position,
         base,
-        size: size,
+        size,
         allocated: size < 0,
         key_node_flag_bits: words::u16_at(cell, 6),
         last_key_written_time: words::u64_at(cell, 8),
@@ -170,135 +160,134 @@ fn key_in(cell: &[u8], position: usize, base: u32) -> KeyNode
 }
 
 // The key record at a position, which with the base it keeps.
-pub fn read_key_node(image: &[u8], position: usize, base: u32) -> KeyAnswer
+#[tactic(auto, using(words::proofs::Papers::handed_on, crate::proofs::Records::refused_alike, words::proofs::Papers::checked_good, crate::proofs::Records::passed), unfolding(crate::specs::Key::key_at, crate::specs::Key::key_fault))]
+pub fn read_key_node(image: &[u8], position: usize, base: u32) -> Result<KeyNode, Refusal>
     ensures { key_paper result ≡ key_at image.now position base }
 {
-    match check_record(image, position, FIXED, SIGNATURE, NAME_SIZE_AT) {
-        Verdict::Refused(refusal) => KeyAnswer::Refused(refusal),
-        Verdict::Whole => {
-            let cell = words::from(image, position);
-            let key = key_in(cell, position, base);
-            KeyAnswer::Key(key)
-        }
-    }
+    check(image, position, KEY)?;
+    let cell = words::from(image, position);
+    Ok(key_in(cell, position, base))
 }
 
 // The name of the key record at a position, as a part of the image; empty where the record is refused.
 pub fn key_name(image: &[u8], position: usize) -> &[u8]
     ensures { Part image.entry result (key_name_at image.now position) (key_name image.now position) }
 {
-    match check_record(image, position, FIXED, SIGNATURE, NAME_SIZE_AT) {
-        Verdict::Refused(_) => &image[0..0],
-        Verdict::Whole => {
-            let cell = words::from(image, position);
-            let size = words::u16_at(cell, NAME_SIZE_AT) as usize;
-            words::part(cell, FIXED, size)
-        }
-    }
+    let Ok(()) = check(image, position, KEY) else {
+        return &image[0..0];
+    };
+    let cell = words::from(image, position);
+    let size = words::u16_at(cell, KEY.name_at) as usize;
+    words::part(cell, KEY.fixed, size)
 }
 
 // What lies between the name's end and the cell's end, as a part of the image; empty where the record is refused.
 pub fn key_slack(image: &[u8], position: usize) -> &[u8]
     ensures { Part image.entry result (key_slack_at image.now position) (key_slack image.now position) }
 {
-    match check_record(image, position, FIXED, SIGNATURE, NAME_SIZE_AT) {
-        Verdict::Refused(_) => &image[0..0],
-        Verdict::Whole => {
-            let cell = words::from(image, position);
-            let size = size_of(cell) as usize;
-            let whole = words::part(cell, 0, size);
-            let name = words::u16_at(cell, NAME_SIZE_AT) as usize;
-            let end = FIXED + name;
-            words::from(whole, end)
-        }
-    }
+    let Ok(()) = check(image, position, KEY) else {
+        return &image[0..0];
+    };
+    let cell = words::from(image, position);
+    let size = size_of(cell) as usize;
+    let whole = words::part(cell, 0, size);
+    let name = words::u16_at(cell, KEY.name_at) as usize;
+    let end = KEY.fixed + name;
+    words::from(whole, end)
 }
 
 // Where the value list of a key record stands, its size word and all its entries within the image; a count of 0 has no list.
-pub fn value_list_place(image: &[u8], base: u32, count: u32, offset: i32) -> PlaceAnswer
+#[tactic(auto, unfolding(crate::specs::ValueList::place_of))]
+pub fn value_list_place(
+    image: &[u8],
+    base: u32,
+    count: u32,
+    offset: i32,
+) -> Result<Option<usize>, Refusal>
     ensures { place_paper result ≡ place_of image.now base count offset }
 {
     if count == 0 {
-        return PlaceAnswer::Nothing;
+        return Ok(None);
     }
     let relative = words::above_zero(offset) as usize;
-    let place = relative + base as usize;
-    if relative == 0 {
-        return PlaceAnswer::Refused(Refusal {
-            number: words::NO_LIST,
-            position: 0,
-        });
-    }
-    if image.len() <= relative {
-        return PlaceAnswer::Refused(Refusal {
-            number: words::NO_LIST,
+    if relative == 0 || image.len() <= relative {
+        return Err(Refusal {
+            reason: Reason::NoList,
             position: 0,
         });
     }
     if COUNT_LIMIT < count {
-        return PlaceAnswer::Refused(Refusal {
-            number: words::TOO_MANY,
+        return Err(Refusal {
+            reason: Reason::TooMany,
             position: 0,
         });
     }
+    let place = relative + base as usize;
     if image.len() < place {
-        return PlaceAnswer::Refused(Refusal {
-            number: words::OUTSIDE,
+        return Err(Refusal {
+            reason: Reason::Outside,
             position: place,
         });
     }
-    let entries = 4 * (count as usize);
-    let end = place + 4 + entries;
+    let end = place + 4 + 4 * (count as usize);
     if image.len() < end {
-        return PlaceAnswer::Refused(Refusal {
-            number: words::CUT_SHORT,
+        return Err(Refusal {
+            reason: Reason::CutShort,
             position: place,
         });
     }
-    PlaceAnswer::Place(place)
+    Ok(Some(place))
+}
+
+// Entry `i` of a list, as stored.
+#[tactic(auto, unfolding(crate::specs::ValueList::entry_of))]
+pub fn entry(list: &[u8], i: u32) -> u32
+    ensures { result ≡ entry_of list.now i }
+{
+    words::u32_at(list, 4 + 4 * (i as usize))
+}
+
+// The position that entry `i` of a list tells, which is relative to a base.
+pub fn entry_position(list: &[u8], base: u32, i: u32) -> usize
+    ensures { result ≡ entry_of list.now i + base }
+{
+    let relative = entry(list, i) as usize;
+    relative + base as usize
 }
 
 // The entries of a list, as stored, into the first places of `out`.
+#[tactic(auto, using(crate::proofs::Fill::filled_none))]
 fn fill_entries(list: &[u8], count: u32, out: &mut [u32])
     requires { count ≤ length out.old }
     ensures { out.new ≡ up_to (entry_of list.now) count ++ drop count out.old }
 {
-    let mut i: u32 = 0;
-    while i < count {
-        let at = i as usize;
-        out[at] = words::u32_at(list, 4 + 4 * at);
-        i += 1;
+    for i in 0..count {
+        out[i as usize] = entry(list, i);
     }
 }
 
 // The value list of a key record, given by its numbers: the entries as stored into `out`. A refusal changes no place of it.
+#[tactic(auto, using(words::proofs::Signed::back, crate::proofs::ValueLists::no_values, crate::proofs::ValueLists::no_place, crate::proofs::ValueLists::no_room))]
 pub fn value_list(
     image: &[u8],
     base: u32,
     count: u32,
     offset: i32,
     out: &mut [u32],
-) -> ValueListAnswer
+) -> Result<u32, RoomRefusal>
     ensures { ListAnswered image.now base count offset out.old result out.new }
 {
-    match value_list_place(image, base, count, offset) {
-        PlaceAnswer::Nothing => ValueListAnswer::Listed(0),
-        PlaceAnswer::Refused(refusal) => ValueListAnswer::Refused(RoomRefusal {
-            number: refusal.number,
-            position: refusal.position,
-            places: 0,
-        }),
-        PlaceAnswer::Place(position) => {
-            if out.len() < count as usize {
-                return ValueListAnswer::Refused(RoomRefusal {
-                    number: words::NO_ROOM,
-                    position: 0,
-                    places: count as usize,
-                });
-            }
-            let list = words::from(image, position);
-            fill_entries(list, count, out);
-            ValueListAnswer::Listed(count)
-        }
+    let Some(position) = value_list_place(image, base, count, offset)? else {
+        return Ok(0);
+    };
+    let places = count as usize;
+    if out.len() < places {
+        return Err(RoomRefusal {
+            reason: Reason::NoRoom,
+            position: 0,
+            places,
+        });
     }
+    fill_entries(words::from(image, position), count, out);
+    Ok(count)
 }

@@ -34,15 +34,15 @@ module _ (image : List ℕ) (base : ℕ) (name : List ℕ) (f : ℕ → ℕ) (n 
       let k : length (up_to f n) ≤ i = rw (up_length f n) h in
       rw (drop_of_length-le (up_to f n) k)
 
-  -- entry i, where its record is read from w
-  module _ (i : ℕ) (h : i < n) (w : ℕ) (e : w ≡ f i) where
-    pub unreadable : (t : Told) → value_at image (w + base) ≡ refused t → from i ≡ refused t
+  -- entry i, whose record stands at p
+  module _ (i : ℕ) (h : i < n) (p : ℕ) (e : p ≡ f i + base) where
+    pub unreadable : (t : Told) → value_at image p ≡ refused t → from i ≡ refused t
     unreadable t r = here i h ∙ simp (← e, r)
 
-    pub match : (v : KeyValue) → value_at image (w + base) ≡ success v → matches_of v.flags_raw (value_name image (w + base)) name ≡ true → from i ≡ success (record { value = v; position = w + base })
+    pub match : (v : KeyValue) → value_at image p ≡ success v → matches_of v.flags_raw (value_name image p) name ≡ true → from i ≡ success (record { value = v; position = p })
     match v r m = here i h ∙ simp (← e, r, m)
 
-    pub no_match : (v : KeyValue) → value_at image (w + base) ≡ success v → matches_of v.flags_raw (value_name image (w + base)) name ≡ false → from i ≡ from (i + 1)
+    pub no_match : (v : KeyValue) → value_at image p ≡ success v → matches_of v.flags_raw (value_name image p) name ≡ false → from i ≡ from (i + 1)
     no_match v r m = here i h ∙ simp (← e, r, m, add-one)
 
 -- the lookup, where its list stands nowhere, stands at a place, is refused

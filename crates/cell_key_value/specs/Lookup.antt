@@ -1,17 +1,14 @@
 -- Document 01, "Value lists and lookup": the lookup by name.
 use Rattle.std.specs.Prelude.{ℕ, ◌+◌, List, [], ◌∷◌, cond, ℤ}
-use Rattle.words.specs.Paper.{Paper, success, refused, by, told, and_then}
+use Rattle.words.specs.Paper.{Paper, success, refused, by, told, paper_of, and_then}
 use Rattle.words.specs.Refusals.{NOT_FOUND}
 use Rattle.words.specs.declared.Refusal.{Refusal}
 use Rattle.cell_key_node.specs.ValueList.{place_of, entries_of}
 use Rattle.cell_key_value.specs.Value.{value_at, value_name}
 use Rattle.cell_key_value.specs.Text.{matches_of}
 use Rattle.cell_key_value.specs.declared.KeyValue.{KeyValue}
-use Rattle.cell_key_value.specs.declared.ValueAnswer.{ValueAnswer}
-use Rattle.cell_key_value.specs.declared.ValueAnswer.TheVariants.{Value, Refused as NoValue}
 use Rattle.cell_key_value.specs.declared.FoundValue.{FoundValue}
-use Rattle.cell_key_value.specs.declared.LookupAnswer.{LookupAnswer}
-use Rattle.cell_key_value.specs.declared.LookupAnswer.TheVariants.{Found, Refused as NoMatch}
+use Rattle.std.specs.declared.result.Result.{Result}
 
 -- "The first match or the first unreadable record decides; the latter gives its refusal. A match gives the record and its
 -- position": what the record at position p says, and what the records after it say
@@ -33,11 +30,5 @@ lookup_of image base count offset name =
     (look_through image base name (entries_of image base count offset))
 
 -- what the code's answer says
-abbrev pub lookup_paper : LookupAnswer → Paper FoundValue
-lookup_paper (Found v) = success v
-lookup_paper (NoMatch f) = refused (told f)
-
--- the refusal that an answer holds
-abbrev pub refusal_of : ValueAnswer → Refusal
-refusal_of (NoValue f) = f
-refusal_of (Value v) = record { number = NOT_FOUND; position = 0 }
+abbrev pub lookup_paper : Result FoundValue Refusal → Paper FoundValue
+lookup_paper = paper_of (λ v. v) told

@@ -2,11 +2,11 @@
 use Rattle.std.specs.Prelude.{ℕ, ◌+◌, List, take, drop, pos}
 use Rattle.std.specs.Int.Signed.{lt_z}
 use Rattle.words.specs.Words.{word16, word32, signed}
-use Rattle.words.specs.Paper.{Paper, success, refused, told, checked, handed, handed_at}
+use Rattle.words.specs.Paper.{Paper, told, paper_of, checked, handed, handed_at}
 use Rattle.cell_key_node.specs.Records.{fault_at}
 use Rattle.cell_key_value.specs.declared.KeyValue.{KeyValue}
-use Rattle.cell_key_value.specs.declared.ValueAnswer.{ValueAnswer}
-use Rattle.cell_key_value.specs.declared.ValueAnswer.TheVariants.{Value, Refused}
+use Rattle.std.specs.declared.result.Result.{Result}
+use Rattle.words.specs.declared.Refusal.{Refusal}
 
 -- the fixed part is 24 bytes, "vk" stands at 4, the name's length at 6. "Same order of checks."
 unfoldable pub value_fault : List ℕ → ℕ → ℕ
@@ -39,6 +39,5 @@ unfoldable pub value_name_at : List ℕ → ℕ → ℕ
 value_name_at image position = handed_at (value_fault image position) (position + 24)
 
 -- what the code's answer says
-abbrev pub value_paper : ValueAnswer → Paper KeyValue
-value_paper (Value v) = success v
-value_paper (Refused f) = refused (told f)
+abbrev pub value_paper : Result KeyValue Refusal → Paper KeyValue
+value_paper = paper_of (λ v. v) told

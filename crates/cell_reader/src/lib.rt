@@ -5,7 +5,8 @@
 ghost use Rattle.std.specs.Prelude.{◌≡◌};
 ghost use Rattle.hive_bin.specs.Steps.{step_at, step_paper};
 
-use hive_bin::{Spot, Step};
+use hive_bin::{CellStep, Spot};
+use words::Refusal;
 
 // The bins, and where in them the reader stands.
 #[derive(Clone, Copy)]
@@ -22,14 +23,14 @@ pub fn stand<'a>(bins: &'a [u8], spot: Spot) -> CellReader<'a>
 }
 
 // The cell that a reader stands on, and the next place.
-pub fn step<'a>(reader: CellReader<'a>) -> Step
+pub fn step<'a>(reader: CellReader<'a>) -> Result<Option<CellStep>, Refusal>
     ensures { step_paper result ≡ step_at reader.entry.bins.now reader.entry.spot }
 {
     hive_bin::step_at(reader.bins, reader.spot)
 }
 
 // The same for a caller that holds the bins and the spot.
-pub fn tell(bins: &[u8], spot: Spot) -> Step
+pub fn tell(bins: &[u8], spot: Spot) -> Result<Option<CellStep>, Refusal>
     ensures { step_paper result ≡ step_at bins.now spot }
 {
     step(stand(bins, spot))

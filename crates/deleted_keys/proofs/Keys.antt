@@ -2,43 +2,52 @@
 use Prim.Native.Nat.{ℕ, ◌+◌, ◌≤◌, ◌<◌}
 use mathlib.Core.Path.{◌≡◌, refl, sym, ap, ◌∙◌}
 use mathlib.Core.List.{List}
-use mathlib.Core.Bool.{true, false}
+use mathlib.Core.Bool.{Bool, true, false, not}
 use native.Mathlib.Omega.{arith}
 use lib.ListN.{length, take, drop, length-take, length-drop}
-use lib.IntN.{ℤ, pos}
-use lib.Signed.{lt_z}
+use lib.IntN.{ℤ, pos, negsuc}
+use lib.Signed.{le_z}
 use mir.Syntax.{w32}
 use mir.Val.{SFits}
+use Rattle.std.proofs.Common.{le-leb}
 use borrow.Author.Tests.{lt-ltb, le-ltb}
 use Rattle.words.specs.Refusals.{CUT_SHORT}
 use Rattle.words.specs.Paper.{refused, by, on_success}
-use Rattle.words.proofs.Signed.{read}
+use Rattle.words.proofs.Signed.{read, back}
 use Rattle.hive_bin.specs.Walk.{Walk, found, fault, shift, bins_in, bins_at}
 use Rattle.hive_bin.specs.Steps.{cells_of}
-use Rattle.hive_bin.proofs.Signs.{negative_read, positive_read}
+use Rattle.hive_bin.specs.Totals.{negative}
 use Rattle.cell_key_node.specs.Key.{key_at, key_paper}
 use Rattle.cell_key_node.specs.declared.KeyNode.{KeyNode}
-use Rattle.cell_key_node.specs.declared.KeyAnswer.{KeyAnswer}
-use Rattle.cell_key_node.specs.declared.KeyAnswer.TheVariants.{Key, Refused}
 use Rattle.words.specs.declared.Refusal.{Refusal}
-use Rattle.deleted_keys.specs.Deleted.{is_deleted, positions_of, deleted_of}
+use Rattle.deleted_keys.specs.Deleted.{succeeds, is_deleted, positions_of, deleted_of}
 use Rattle.deleted_keys.specs.Scan.{keys_of, keys_in}
+use Rattle.std.specs.Prelude.{Ok, Err, is_ok}
+use Rattle.std.specs.declared.result.Result.{Result}
 
 -- ---- one cell, by what the code has read: its size word, and the key record at its position
 
-module _ (image : List ℕ) (position : ℕ) (z : ℤ) (held : SFits w32 z) where
-  pub allocated : lt_z (read z) (pos 0) ≡ true → false ≡ is_deleted image (record { place = position; size = z })
+module _ (image : List ℕ) (position : ℕ) (z : ℤ) (fits : SFits w32 z) where
+  free_or_not : (b : Bool) → le_z (pos 0) (read z) ≡ b → not (negative z) ≡ b
+  unfolding negative
+  free_or_not b e = go z (rw (back z fits) at e)
+    where
+      go : (y : ℤ) → le_z (pos 0) y ≡ b → not (negative y) ≡ b
+      go (pos n) h = sym (le-leb 0 n (omega arith)) ∙ h
+      go (negsuc n) h = h
+
+  pub allocated : le_z (pos 0) (read z) ≡ false → le_z (pos 0) (read z) ≡ is_deleted image (record { place = position; size = z })
   unfolding is_deleted
-  allocated e = simp (negative_read z held e)
+  allocated e = e ∙ simp (free_or_not false e)
 
-  module _ (e : lt_z (read z) (pos 0) ≡ false) {r : KeyAnswer} (is : key_paper r ≡ key_at image position 0) where
-    pub a_key : {k : KeyNode} → r ≡ Key k → true ≡ is_deleted image (record { place = position; size = z })
-    unfolding is_deleted
-    a_key f = simp (positive_read z held e, sym is ∙ ap key_paper f)
-
-    pub no_key : {k : Refusal} → r ≡ Refused k → false ≡ is_deleted image (record { place = position; size = z })
-    unfolding is_deleted
-    no_key f = simp (positive_read z held e, sym is ∙ ap key_paper f)
+  pub a_free_one : le_z (pos 0) (read z) ≡ true → (r : Result KeyNode Refusal) → key_paper r ≡ key_at image position 0
+      → is_ok r ≡ is_deleted image (record { place = position; size = z })
+  unfolding is_deleted
+  a_free_one e r is = simp (free_or_not true e, ← is) (reads r)
+    where
+      reads : (x : Result KeyNode Refusal) → is_ok x ≡ succeeds (key_paper x)
+      reads (Ok k) = refl
+      reads (Err f) = refl
 
 -- ---- the image, by its bins
 

@@ -12,16 +12,18 @@ use Rattle.words.proofs.Papers.{refused-success, same-success}
 use Rattle.words.proofs.Buffers.{written-more}
 use Rattle.hive_bin.specs.declared.Spot.{Spot}
 use Rattle.hive_bin.specs.declared.CellStep.{CellStep}
-use Rattle.hive_bin.specs.declared.Step.{Step}
-use Rattle.hive_bin.specs.declared.Step.TheVariants.{Cell, End, Refused}
 use Rattle.words.specs.declared.Refusal.{Refusal}
 use Rattle.hive_bin.specs.Walk.{Found, moved}
-use Rattle.hive_bin.specs.Steps.{start, step_at, found_in, step_paper}
+use Rattle.hive_bin.specs.Steps.{start, Stepped, step_at, found_in, step_paper}
 use Rattle.hive_bin.proofs.Stepping.{rest, Stands, stands_in, stands_start, Tells, Says, step_says, rest_all}
-use Rattle.deleted_keys.specs.declared.DeletedAnswer.{DeletedAnswer}
-use Rattle.deleted_keys.specs.declared.DeletedAnswer.TheVariants.{Listed}
 use Rattle.deleted_keys.specs.Deleted.{is_deleted, positions_of, deleted_paper}
 use Rattle.deleted_keys.specs.Scan.{keys_of, keys_in, Noted, Scanned}
+use Rattle.std.specs.Prelude.{Ok, Err}
+use Rattle.std.specs.declared.result.Result.{Result}
+use Rattle.std.specs.declared.option.Option.{Option}
+use Rattle.words.specs.declared.RoomRefusal.{RoomRefusal}
+use Rattle.std.specs.declared.option.Option.TheVariants.{Some, None}
+use Rattle.words.specs.Paper.{number_of}
 
 -- ---- the keys of a row of cells, cell by cell
 
@@ -61,6 +63,10 @@ unfolding on_success
 before_one ks p (success x) = ap success (sym (append_assoc ks (p ∷ []) x))
 before_one ks p (refused t) = refl
 
+-- what a step tells of what it is found to be
+pub told_as : {r : Result (Option CellStep) Refusal} {o p : Option CellStep} {u : Paper Stepped} → r ≡ Ok o → o ≡ p → step_paper r ≡ u → step_paper (Ok p) ≡ u
+told_as e f q = sym (ap (λ (x : Option CellStep). step_paper (Ok x)) f) ∙ sym (ap step_paper e) ∙ q
+
 -- ---- the loop: at the spot s, after n keys, which are `ks`, with the buffer `out`, which held `old`
 
 pub record SoFar (image : List ℕ) (base : ℕ) (b : List ℕ) (room : ℕ) (old : List ℕ) (s : Spot) (n : ℕ) (out : List ℕ) : Type 0 where
@@ -88,12 +94,12 @@ module _ (image : List ℕ) (base : ℕ) (b : List ℕ) (room : ℕ) (old : List
       }
 
   module _ (s : Spot) (n : ℕ) (out : List ℕ) (so : SoFar image base b room old s n out) where
-    says : (r : Step) → step_paper r ≡ step_at b s → Says b (rest b s) s.place (step_paper r)
+    says : (r : Result (Option CellStep) Refusal) → step_paper r ≡ step_at b s → Says b (rest b s) s.place (step_paper r)
     says r e = subst (Says b (rest b s) s.place) (sym e) (step_says b s so.stands)
 
-    module _ (c : CellStep) (is : step_paper (Cell c) ≡ step_at b s) where
+    module _ (c : CellStep) (is : step_paper (Ok (Some c)) ≡ step_at b s) where
       tells : Tells b (rest b s) s.place (found_in c) c.next
-      tells = says (Cell c) is
+      tells = says (Ok (Some c)) is
 
       -- the next spot lies further on, and within the bins
       pub further : (s.place ≤ c.place) × (c.place < c.next.place) × (c.next.place ≤ length b)
@@ -162,11 +168,11 @@ module _ (image : List ℕ) (base : ℕ) (b : List ℕ) (room : ℕ) (old : List
           go false h = counts e (ltb-false n room h)
 
     -- at the end
-    pub ends : step_paper End ≡ step_at b s → Scanned image base b room old (Listed n) out
+    pub ends : step_paper (Ok None) ≡ step_at b s → Scanned image base b room old (Ok n) out
     unfolding on_success positions_of
     ends is =
         let e : keys_in image base b ≡ success so.ks =
-        so.whole ∙ ap (λ (a : Paper (List Found)). before so.ks (keys_of image base a)) (says End is) ∙ last in
+        so.whole ∙ ap (λ (a : Paper (List Found)). before so.ks (keys_of image base a)) (says (Ok None) is) ∙ last in
         record {
           answer = sym (ap (on_success length) e ∙ ap success so.count);
           none = so.none;
@@ -180,15 +186,15 @@ module _ (image : List ℕ) (base : ℕ) (b : List ℕ) (room : ℕ) (old : List
         last = ap success (append-nil so.ks)
 
     -- at a fault
-    module _ (f : Refusal) (is : step_paper (Refused f) ≡ step_at b s) where
+    module _ (f : Refusal) (is : step_paper (Err f) ≡ step_at b s) where
       pub fault_in : f.position ≤ length b
-      fault_in = (says (Refused f) is).1
+      fault_in = (says (Err f) is).1
 
-      pub fails : {r : DeletedAnswer} → deleted_paper r ≡ refused (by f.number (base + f.position)) → Scanned image base b room old r out
+      pub fails : {r : Result ℕ RoomRefusal} → deleted_paper r ≡ refused (by (number_of f.reason) (base + f.position)) → Scanned image base b room old r out
       unfolding on_success
       fails {r} q =
-          let e : keys_in image base b ≡ refused (by f.number (base + f.position)) =
-          so.whole ∙ ap (λ (a : Paper (List Found)). before so.ks (keys_of image base a)) (says (Refused f) is).0 in
+          let e : keys_in image base b ≡ refused (by (number_of f.reason) (base + f.position)) =
+          so.whole ∙ ap (λ (a : Paper (List Found)). before so.ks (keys_of image base a)) (says (Err f) is).0 in
           record {
             answer = q ∙ sym (ap (on_success length) e);
             none = so.none;

@@ -23,9 +23,10 @@ use Rattle.hive_bin.proofs.Totals.{OfBins, given}
 use Rattle.cell_key_node.specs.Key.{key_at}
 use Rattle.cell_key_node.proofs.Keys.{any_base}
 use Rattle.cell_key_node.specs.declared.KeyNode.{KeyNode}
-use Rattle.deleted_keys.specs.declared.DeletedAnswer.TheVariants.{Listed, Refused}
 use Rattle.deleted_keys.specs.Deleted.{succeeds, is_deleted, positions_of, deleted_of, listed_of, row_of, DeletedAnswered}
 use Rattle.deleted_keys.specs.Whole.{Among, Deleted, WasListed, WasRefused}
+use Rattle.std.specs.Prelude.{Ok, Err}
+use Rattle.words.specs.Paper.{number_of}
 
 -- ---- rising numbers
 
@@ -166,7 +167,7 @@ module _ (image : List ℕ) (base size : ℕ) where
       go false f = in_image (bins_in b) (rising b) f
 
 module _ (image : List ℕ) (base size : ℕ) (old new : List ℕ) where
-  pub was_listed : (n : ℕ) → DeletedAnswered image base size old (Listed n) new → WasListed image base size old new n
+  pub was_listed : (n : ℕ) → DeletedAnswered image base size old (Ok n) new → WasListed image base size old new n
   unfolding listed_of deleted_of
   was_listed n x =
       let fits = room_success needing (length old) (on_success length (deleted_of image base size)) n (sym x.answer) in
@@ -187,7 +188,7 @@ module _ (image : List ℕ) (base size : ℕ) (old new : List ℕ) where
         each = listed_each image found.0;
       }
 
-  pub was_refused : (f : RoomRefusal) → DeletedAnswered image base size old (Refused f) new → WasRefused image base size old new f
+  pub was_refused : (f : RoomRefusal) → DeletedAnswered image base size old (Err f) new → WasRefused image base size old new f
   unfolding listed_of deleted_of
   was_refused f x =
       let plain = plainly_on length (deleted_of image base size) (plainly_on (positions_of image) (cells_of (bins_at image base size)) (plainly image base size)) in
@@ -203,5 +204,5 @@ module _ (image : List ℕ) (base size : ℕ) (old new : List ℕ) where
             let told = other_of needing (length old) (on_success length (deleted_of image base size)) (λ v. refl) (sym x.answer) e in
             let fault = on_refused_of (positions_of image) (cells_of (bins_at image base size)) (on_refused_of length (deleted_of image base size) told) in
             let none : f.places ≡ 0 = (plain (told_of_room f) told).places in
-            (bins_fault image base size (told_of_room f) fault ∙ ap (λ (n : ℕ). refused (tell f.number f.position 0 n 0 0)) none, none);
+            (bins_fault image base size (told_of_room f) fault ∙ ap (λ (n : ℕ). refused (tell (number_of f.reason) f.position 0 n 0 0)) none, none);
       }

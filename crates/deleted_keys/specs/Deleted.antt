@@ -1,13 +1,13 @@
 -- Document 02, order 4: "Within checked bins, list the image position of each free cell that reads as a key record by document 01."
 use Rattle.std.specs.Prelude.{ℕ, List, [], ◌∷◌, Bool, true, false, cond, not, ◌&&◌, length}
-use Rattle.words.specs.Paper.{Paper, success, refused, told_of_room, on_success}
+use Rattle.words.specs.Paper.{Paper, success, refused, paper_of, told_of_room, on_success}
 use Rattle.words.specs.Buffers.{needing, in_room, Answered}
 use Rattle.hive_bin.specs.Walk.{Found, bins_at}
 use Rattle.hive_bin.specs.Totals.{negative}
 use Rattle.hive_bin.specs.Steps.{cells_of}
 use Rattle.cell_key_node.specs.Key.{key_at}
-use Rattle.deleted_keys.specs.declared.DeletedAnswer.{DeletedAnswer}
-use Rattle.deleted_keys.specs.declared.DeletedAnswer.TheVariants.{Listed, Refused}
+use Rattle.std.specs.declared.result.Result.{Result}
+use Rattle.words.specs.declared.RoomRefusal.{RoomRefusal}
 
 abbrev pub succeeds : {A : Type 0} → Paper A → Bool
 succeeds (success v) = true
@@ -37,11 +37,10 @@ row_of (success ks) = ks
 row_of (refused t) = []
 
 -- what the code's answer says
-abbrev pub deleted_paper : DeletedAnswer → Paper ℕ
-deleted_paper (Listed n) = success n
-deleted_paper (Refused f) = refused (told_of_room f)
+abbrev pub deleted_paper : Result ℕ RoomRefusal → Paper ℕ
+deleted_paper = paper_of (λ n. n) told_of_room
 
 -- the answer r, and the buffer's contents before and after it
-abbrev pub DeletedAnswered : List ℕ → ℕ → ℕ → List ℕ → DeletedAnswer → List ℕ → Type 0
+abbrev pub DeletedAnswered : List ℕ → ℕ → ℕ → List ℕ → Result ℕ RoomRefusal → List ℕ → Type 0
 DeletedAnswered image base size old r new =
     Answered (deleted_paper r) (listed_of image base size (length old)) (row_of (deleted_of image base size)) old new

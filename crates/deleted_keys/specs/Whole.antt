@@ -9,6 +9,7 @@ use Rattle.hive_bin.specs.Steps.{Rising}
 use Rattle.cell_key_node.specs.Key.{key_at}
 use Rattle.cell_key_node.specs.declared.KeyNode.{KeyNode}
 use Rattle.deleted_keys.specs.Deleted.{deleted_of}
+use Rattle.words.specs.Paper.{number_of}
 
 -- one of a row
 abbrev pub Among : {A : Type 0} → A → List A → Type 0
@@ -41,6 +42,6 @@ module _ (image : List ℕ) (base size : ℕ) (old new : List ℕ) where
   -- it is refused: no place has changed; 9 tells how many there are, and the places are fewer; any other refusal is that of the bins
   pub record WasRefused (f : RoomRefusal) : Type 0 where
     pub untouched : new ≡ old
-    pub no_room : f.number ≡ NO_ROOM
+    pub no_room : (number_of f.reason) ≡ NO_ROOM
         → (f.position ≡ 0) × (length old < f.places) × ((ps : List ℕ) × (deleted_of image base size ≡ success ps) × (length ps ≡ f.places))
-    pub bins : (f.number ≡ NO_ROOM → ⊥) → (bins_of image base size ≡ refused (by f.number f.position)) × (f.places ≡ 0)
+    pub bins : ((number_of f.reason) ≡ NO_ROOM → ⊥) → (bins_of image base size ≡ refused (by (number_of f.reason) f.position)) × (f.places ≡ 0)

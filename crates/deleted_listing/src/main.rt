@@ -1,10 +1,10 @@
 // Lists the deleted keys of one hive: standard input to lines on standard output (`./list --deleted`).
 #![tactic(auto)]
 
-mod console;
 mod deleted;
 
+use hive_console::input;
+
 fn main(rt: HostRuntime) {
-    let mut input = rt.stdin();
-    deleted::list_input(&mut input);
+    input::list_input(&mut rt.stdin(), deleted::list);
 }

@@ -6,16 +6,16 @@ use native.Mathlib.Omega.{arith}
 use lib.ListN.{length, take, drop, length-take, length-drop}
 use borrow.Author.Tests.{lt-ltb, le-ltb}
 use Rattle.words.specs.Refusals.{CUT_SHORT}
-use Rattle.words.specs.Paper.{Paper, success, refused, by}
+use Rattle.words.specs.Paper.{Paper, success, refused, by, told}
 use Rattle.words.specs.declared.Refusal.{Refusal}
 use Rattle.hive_bin.specs.declared.BinTotals.{BinTotals}
-use Rattle.hive_bin.specs.declared.BinsAnswer.{BinsAnswer}
-use Rattle.hive_bin.specs.declared.BinsAnswer.TheVariants.{Totals, Refused}
 use Rattle.hive_bin.specs.Answers.{bins_paper}
 use Rattle.hive_bin.specs.Walk.{bins_in, bins_at}
 use Rattle.hive_bin.specs.Totals.{answer_of, bins_of}
 use Rattle.hive_bin.proofs.Sums.{later, answer_shift, Fills}
 use Rattle.hive_bin.proofs.Pieces.{bins_fill}
+use Rattle.std.specs.Prelude.{Ok, Err}
+use Rattle.std.specs.declared.result.Result.{Result}
 
 later_fills : (k n : ℕ) (a : Paper BinTotals) → Fills 0 n a → Fills k n (later k a)
 unfolding later
@@ -45,18 +45,28 @@ module _ (s : List ℕ) (base size : ℕ) where
     image_fills = rw inside (later_fills base size _ part_fills)
 
     -- what the code's answer r on the part b of the image makes of the image
-    module _ (b : List ℕ) (part : b ≡ take size (drop base s)) (r : BinsAnswer) (e : bins_paper r ≡ answer_of (bins_in b)) where
+    module _ (b : List ℕ) (part : b ≡ take size (drop base s)) (r : Result BinTotals Refusal) (e : bins_paper r ≡ answer_of (bins_in b)) where
       on_part : answer_of (bins_in (take size (drop base s))) ≡ bins_paper r
       on_part = sym (e ∙ ap (λ (x : List ℕ). answer_of (bins_in x)) part)
 
-      pub of_totals : {t : BinTotals} → r ≡ Totals t → success t ≡ bins_of s base size
+      of_totals : {t : BinTotals} → r ≡ Ok t → success t ≡ bins_of s base size
       unfolding later
       of_totals h = sym (inside ∙ ap (later base) (on_part ∙ ap bins_paper h))
 
-      module _ {f : Refusal} (h : r ≡ Refused f) where
-        pub of_refusal : refused (by f.number (base + f.position)) ≡ bins_of s base size
-        unfolding later
-        of_refusal = sym (inside ∙ ap (later base) (on_part ∙ ap bins_paper h))
+      abbrev moved : Refusal → Refusal
+      moved f = record f { position = base + f.position }
 
-        pub of_place : f.position < size
-        of_place = let k = subst (Fills 0 size) (on_part ∙ ap bins_paper h) part_fills in omega arith
+      of_refusal : {f : Refusal} → r ≡ Err f → refused (told (moved f)) ≡ bins_of s base size
+      unfolding later
+      of_refusal h = sym (inside ∙ ap (later base) (on_part ∙ ap bins_paper h))
+
+      pub of_place : {f : Refusal} → r ≡ Err f → f.position < size
+      of_place h = let k = subst (Fills 0 size) (on_part ∙ ap bins_paper h) part_fills in omega arith
+
+      pub of_part : (m : Result BinTotals Refusal) → ((t : BinTotals) → r ≡ Ok t → m ≡ Ok t) → ((f : Refusal) → r ≡ Err f → m ≡ Err (moved f))
+          → bins_paper m ≡ bins_of s base size
+      of_part m good bad = go r (λ i. r)
+        where
+          go : (a : Result BinTotals Refusal) → r ≡ a → bins_paper m ≡ bins_of s base size
+          go (Ok t) k = ap bins_paper (good t k) ∙ of_totals k
+          go (Err f) k = ap bins_paper (bad f k) ∙ of_refusal k

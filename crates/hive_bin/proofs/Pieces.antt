@@ -9,29 +9,30 @@ use lib.Dec.{ltb, leb, eqb}
 use lib.IntN.{ℤ, nat_abs}
 use lib.Signed.{mag}
 use borrow.Author.Tests.{ltb-true, leb-true, eqb-true, lt-ltb, le-leb, eq-eqb}
+use Rattle.words.specs.Refusals.{BAD_BIN, BAD_CELL}
 use Rattle.words.specs.Words.{word32}
-use Rattle.words.specs.Paper.{success, refused, told}
+use Rattle.words.specs.Paper.{success, refused, by, told}
 use Rattle.words.specs.declared.Refusal.{Refusal}
 use Rattle.words.proofs.Signed.{read, held as read_held}
 use Rattle.words.proofs.Tests.{both}
 use Rattle.hive_bin.specs.declared.BinTotals.{BinTotals}
-use Rattle.hive_bin.specs.declared.BinsAnswer.{BinsAnswer}
-use Rattle.hive_bin.specs.declared.BinsAnswer.TheVariants.{Totals, Refused}
 use Rattle.hive_bin.specs.Answers.{bins_paper}
-use Rattle.hive_bin.specs.Walk.{row, size_word, good_cell, cell_row, hbin, good_header, good_bin, bin_row, cell_size, header_size, bin_size}
+use Rattle.hive_bin.specs.Walk.{row, size_word, good_cell, cell_row, hbin, good_header, good_bin, bin_row, cell_size, header_size, bin_size, sized}
 use Rattle.hive_bin.specs.Totals.{negative, allocated_one, free_one, allocated_size, free_size, sum_over, answer_of, one_bin, cell_totals, together, Room}
-use Rattle.hive_bin.proofs.Rows.{Sound, size_at, some, none, some_size}
-use Rattle.hive_bin.proofs.Sums.{plus, answer_join, Fills, plus_fills, Whole, row_fills}
+use Rattle.hive_bin.proofs.Rows.{Sound, size_at, some_size, sized_some, sized-none}
+use Rattle.hive_bin.proofs.Sums.{plus, answer_join, Fills, plus_fills, Whole, row_fills, SoFar, stops, fits, fails, room, goes}
+use Rattle.std.specs.Prelude.{Ok, Err}
+use Rattle.std.specs.declared.result.Result.{Result}
+use Rattle.std.specs.declared.option.Option.TheVariants.{Some, None}
 
--- a size, or 0, from the tests that were made
 zero_is : (g : Bool) (m : ℕ) → (g ≡ true → ⊥) → 0 ≡ cond g m 0
 zero_is true m h = absurd (h refl)
 zero_is false m h = refl
 
-size_is : (g : Bool) (m n : ℕ) → n ≡ m → (0 < n → g ≡ true) → n ≡ cond g m 0
-size_is true m n e h = e
-size_is false m zero e h = refl
-size_is false m (suc n) e h = absurd (false≢true (h (omega arith)))
+whole_or_none : (g : Bool) (m n : ℕ) → n ≡ m → (0 < n → g ≡ true) → n ≡ cond g m 0
+whole_or_none true m n e h = e
+whole_or_none false m zero e h = refl
+whole_or_none false m (suc n) e h = absurd (false≢true (h (omega arith)))
 
 -- ---- cells
 
@@ -43,32 +44,9 @@ module _ (z : ℤ) (left : ℕ) where
       let q = both (ltb 0 (nat_abs z)) (eqb (nat_abs z % 8) 0) p.0 in
       (ltb-true _ _ q.0, eqb-true _ _ q.1, leb-true _ _ p.1)
 
-  pub cell_of : 0 < nat_abs z → nat_abs z % 8 ≡ 0 → nat_abs z ≤ left → good_cell z left ≡ true
-  unfolding good_cell
-  cell_of h k l = simp (lt-ltb _ _ h, eq-eqb _ _ k, le-leb _ _ l)
-
-  -- the same by the size that was read
-  pub cell-none : cell_size z left ≡ 0 → good_cell z left ≡ false
-  unfolding cell_size
-  cell-none e = none (good_cell z left) (nat_abs z) (λ g. (cell_facts g).0) e
-
-  pub cell_some : {n : ℕ} → n ≡ cell_size z left → (n ≡ 0 → ⊥) → (good_cell z left ≡ true) × (nat_abs z ≡ n)
-  unfolding cell_size
-  cell_some {n} e h = some (good_cell z left) (nat_abs z) n (sym e) (omega arith)
-
 pub cells_sound : (b : List ℕ) → Sound (cell_row b)
 unfolding cell_row
 cells_sound b at left e = let k = cell_facts (size_word b at) left e in (k.0, k.2)
-
-pub no_cell : (z : ℤ) (left : ℕ) → (good_cell z left ≡ true → ⊥) → 0 ≡ cell_size z left
-unfolding cell_size
-no_cell z left h = zero_is (good_cell z left) (nat_abs z) h
-
-pub a_cell : (z : ℤ) (left n : ℕ) → n ≡ nat_abs z → n % 8 ≡ 0 → n ≤ left → n ≡ cell_size z left
-unfolding cell_size
-a_cell z left n e k l =
-    size_is (good_cell z left) (nat_abs z) n e
-    (λ h. cell_of z left (omega arith) (rw e at k) (omega arith))
 
 -- what a cell adds, and that it is its own bytes
 pub cell_adds : (b : List ℕ) (at : ℕ) → answer_of ((cell_row b).piece at) ≡ success (cell_totals (size_word b at))
@@ -96,12 +74,32 @@ cells_fill b = row_fills (cell_row b) (cells_sound b) (cells_whole b)
 
 -- the same from the size word that the code holds
 module _ (b : List ℕ) (at : ℕ) {z : ℤ} (held : mag z < 2 ^ 31) (word : z ≡ size_word b at) where
-  pub cell_size_held : (left : ℕ) {n : ℕ} → n ≡ cell_size (read z) left → size_at (cell_row b) at left ≡ n
+  pub cell_size_held : (left : ℕ) → cell_size (read z) left ≡ size_at (cell_row b) at left
   unfolding cell_size cell_row
-  cell_size_held left e = sym (rw (read_held held word) at e)
+  cell_size_held left = rw (read_held held word) refl
 
   pub cell_adds_held : {t : BinTotals} → t ≡ cell_totals (read z) → answer_of ((cell_row b).piece at) ≡ success t
   cell_adds_held e = cell_adds b at ∙ sym (ap success (rw (read_held held word) at e))
+
+-- in a loop over cells
+module _ (b : List ℕ) {from all at left : ℕ} {t : BinTotals} (so : SoFar (cell_row b) from all at left t) {z : ℤ} (held : mag z < 2 ^ 31) (word : z ≡ size_word b at) where
+  pub cells_stop : 0 < left → None ≡ sized (cell_size (read z) left) → refused (by BAD_CELL at) ≡ answer_of (row (cell_row b) from all)
+  unfolding cell_row
+  cells_stop h e = stops so (cells_sound b) h (sym (cell_size_held b at held word left) ∙ sized-none e)
+
+  module _ {n : ℕ} (size : Some n ≡ sized (cell_size (read z) left)) where
+    size_is : size_at (cell_row b) at left ≡ n
+    size_is = sym (cell_size_held b at held word left) ∙ (sized_some size).0
+
+    pub cells_fit : (0 < n) × (n ≤ left)
+    cells_fit = ((sized_some size).1, fits so (cells_sound b) size_is (sized_some size).1)
+
+    module _ {u : BinTotals} (e : u ≡ cell_totals (read z)) where
+      pub cells_room : all < 2 ^ 64 → Room t u
+      cells_room = room so (cells_sound b) size_is (sized_some size).1 (cells_whole b) (cell_adds_held b at held word e)
+
+      pub cells_go : {v : BinTotals} → v ≡ together t u → SoFar (cell_row b) from all (at + n) (left - n) v
+      cells_go = goes so (cells_sound b) size_is (sized_some size).1 (cells_whole b) (cell_adds_held b at held word e)
 
 -- ---- bins
 
@@ -129,20 +127,11 @@ module _ (sign own size at left : ℕ) where
   pub a_header : (n : ℕ) → n ≡ size → 32 ≤ left → sign ≡ hbin → own ≡ at → n % 4096 ≡ 0 → n ≤ left → n ≡ header_size sign own size at left
   unfolding header_size good_header
   a_header n e h₁ h₂ h₃ h₄ h₅ =
-      size_is (good_header sign own size at left) size n e
+      whole_or_none (good_header sign own size at left) size n e
       (λ h.
       let h₆ : 0 < size = omega arith in
       let h₇ : size ≤ left = omega arith in
       simp (le-leb _ _ h₁, eq-eqb _ _ h₂, eq-eqb _ _ h₃, lt-ltb _ _ h₆, eq-eqb (size % 4096) 0 (rw e at h₄), le-leb _ _ h₇))
-
-  -- the same by the size that was read
-  pub header-none : header_size sign own size at left ≡ 0 → good_header sign own size at left ≡ false
-  unfolding header_size
-  header-none e = none (good_header sign own size at left) size (λ g. (header_facts g).3) e
-
-  pub header_some : {n : ℕ} → n ≡ header_size sign own size at left → (n ≡ 0 → ⊥) → good_header sign own size at left ≡ true
-  unfolding header_size
-  header_some {n} e h = (some (good_header sign own size at left) size n (sym e) (omega arith)).0
 
 module _ (b : List ℕ) (at left : ℕ) where
   pub bin_facts : good_bin b at left ≡ true
@@ -150,16 +139,6 @@ module _ (b : List ℕ) (at left : ℕ) where
       × (0 < word32 b (at + 8)) × (word32 b (at + 8) % 4096 ≡ 0) × (word32 b (at + 8) ≤ left)
   unfolding good_bin
   bin_facts = header_facts (word32 b at) (word32 b (at + 4)) (word32 b (at + 8)) at left
-
-  pub no_bin : (good_bin b at left ≡ true → ⊥) → 0 ≡ bin_size b at left
-  unfolding bin_size good_bin
-  no_bin = no_header (word32 b at) (word32 b (at + 4)) (word32 b (at + 8)) at left
-
-  -- by the words of its header that the code holds
-  pub a_bin : {sign own size n : ℕ} → sign ≡ word32 b at → own ≡ word32 b (at + 4) → size ≡ word32 b (at + 8)
-      → n ≡ header_size sign own size at left → n ≡ bin_size b at left
-  unfolding bin_size
-  a_bin p q r e = rw (sym p, sym q, sym r) e
 
 pub bins_sound : (b : List ℕ) → Sound (bin_row b)
 unfolding bin_row
@@ -185,41 +164,63 @@ pub bins_fill : (b : List ℕ) (at left : ℕ) → Fills at left (answer_of (row
 bins_fill b = row_fills (bin_row b) (bins_sound b) (bins_whole b)
 
 -- the same from what the code holds: n is the size that it read
-module _ (b : List ℕ) (at left : ℕ) {n : ℕ} (size : n ≡ bin_size b at left) where
-  pub bin_size_held : size_at (bin_row b) at left ≡ n
+module _ (b : List ℕ) (at left : ℕ) where
+  pub bin_size_held : bin_size b at left ≡ size_at (bin_row b) at left
   unfolding bin_size header_size good_bin bin_row
-  bin_size_held = sym size
+  bin_size_held = refl
 
-  pub bin_told : 0 < n → (32 ≤ n) × (n ≤ left) × (word32 b (at + 8) ≡ n)
-  unfolding bin_row
-  bin_told h =
-      let k = some_size (bin_row b) (bins_sound b) at left n bin_size_held h in
-      let f = bin_facts b at left k.0 in
-      let z : word32 b (at + 8) ≡ n = k.1 in
-      let m : n % 4096 ≡ 0 = rw z at f.4 in
-      (omega arith, k.2, z)
+  module _ {n : ℕ} (size : Some n ≡ sized (bin_size b at left)) where
+    pub bin_size_is : size_at (bin_row b) at left ≡ n
+    bin_size_is = sym bin_size_held ∙ (sized_some size).0
 
-  -- and r the answer of its cells
-  module _ (h : 0 < n) (r : BinsAnswer) (cells : bins_paper r ≡ answer_of (row (cell_row b) (at + 32) (n - 32))) where
-    bin_is : answer_of ((bin_row b).piece at) ≡ plus (success one_bin) (bins_paper r)
-    bin_is =
-        bin_adds b at
-        ∙ ap (λ (m : ℕ). plus (success one_bin) (answer_of (row (cell_row b) (at + 32) (m - 32)))) (bin_told h).2
-        ∙ ap (plus (success one_bin)) (sym cells)
+    pub bin_told : (32 ≤ n) × (n ≤ left) × (word32 b (at + 8) ≡ n)
+    unfolding bin_row
+    bin_told =
+        let k = some_size (bin_row b) (bins_sound b) at left n bin_size_is (sized_some size).1 in
+        let f = bin_facts b at left k.0 in
+        let z : word32 b (at + 8) ≡ n = k.1 in
+        let m : n % 4096 ≡ 0 = rw z at f.4 in
+        (omega arith, k.2, z)
 
-    pub bin_fails : {f : Refusal} → r ≡ Refused f → answer_of ((bin_row b).piece at) ≡ refused (told f)
-    unfolding plus
-    bin_fails e = bin_is ∙ ap (λ (a : BinsAnswer). plus (success one_bin) (bins_paper a)) e
+    -- and r the answer of its cells
+    module _ (r : Result BinTotals Refusal) (cells : bins_paper r ≡ answer_of (row (cell_row b) (at + 32) (n - 32))) where
+      bin_is : answer_of ((bin_row b).piece at) ≡ plus (success one_bin) (bins_paper r)
+      bin_is =
+          bin_adds b at
+          ∙ ap (λ (m : ℕ). plus (success one_bin) (answer_of (row (cell_row b) (at + 32) (m - 32)))) bin_told.2
+          ∙ ap (plus (success one_bin)) (sym cells)
 
-    module _ {u : BinTotals} (e : r ≡ Totals u) {o : BinTotals} (one : o ≡ one_bin) where
-      pub bin_room : n < 2 ^ 64 → Room o u
-      bin_room l =
-          let f = subst (Fills (at + 32) (n - 32)) (sym cells ∙ ap bins_paper e) (cells_fill b (at + 32) (n - 32)) in
-          let k = bin_told h in
-          rw one (record { pieces = omega arith; bytes = omega arith })
-
-      pub bin_adds_held : {v : BinTotals} → v ≡ together o u → answer_of ((bin_row b).piece at) ≡ success v
+      bin_fails : {f : Refusal} → r ≡ Err f → answer_of ((bin_row b).piece at) ≡ refused (told f)
       unfolding plus
-      bin_adds_held q =
-          bin_is ∙ ap (λ (a : BinsAnswer). plus (success one_bin) (bins_paper a)) e
-          ∙ ap success (sym (q ∙ ap (λ (w : BinTotals). together w u) one))
+      bin_fails e = bin_is ∙ ap (λ (a : Result BinTotals Refusal). plus (success one_bin) (bins_paper a)) e
+
+      module _ {u : BinTotals} (e : r ≡ Ok u) {o : BinTotals} (one : o ≡ one_bin) where
+        pub bin_room : n < 2 ^ 64 → Room o u
+        bin_room l =
+            let f = subst (Fills (at + 32) (n - 32)) (sym cells ∙ ap bins_paper e) (cells_fill b (at + 32) (n - 32)) in
+            let k = bin_told in
+            rw one (record { pieces = omega arith; bytes = omega arith })
+
+        bin_adds_held : {v : BinTotals} → v ≡ together o u → answer_of ((bin_row b).piece at) ≡ success v
+        unfolding plus
+        bin_adds_held q =
+            bin_is ∙ ap (λ (a : Result BinTotals Refusal). plus (success one_bin) (bins_paper a)) e
+            ∙ ap success (sym (q ∙ ap (λ (w : BinTotals). together w u) one))
+
+-- in a loop over bins
+module _ (b : List ℕ) {from all at left : ℕ} {t : BinTotals} (so : SoFar (bin_row b) from all at left t) where
+  pub bins_stop : 0 < left → None ≡ sized (bin_size b at left) → refused (by BAD_BIN at) ≡ answer_of (row (bin_row b) from all)
+  unfolding bin_row
+  bins_stop h e = stops so (bins_sound b) h (sym (bin_size_held b at left) ∙ sized-none e)
+
+  module _ {n : ℕ} (size : Some n ≡ sized (bin_size b at left)) {r : Result BinTotals Refusal}
+      (cells : bins_paper r ≡ answer_of (row (cell_row b) (at + 32) (n - 32))) where
+    pub bins_fail : {f : Refusal} → r ≡ Err f → refused (told f) ≡ answer_of (row (bin_row b) from all)
+    bins_fail e = fails so (bins_sound b) (bin_size_is b at left size) (sized_some size).1 (bin_fails b at left size r cells e)
+
+    module _ {u : BinTotals} (e : r ≡ Ok u) {o : BinTotals} (one : o ≡ one_bin) {v : BinTotals} (q : v ≡ together o u) where
+      pub bins_room : all < 2 ^ 64 → Room t v
+      bins_room = room so (bins_sound b) (bin_size_is b at left size) (sized_some size).1 (bins_whole b) (bin_adds_held b at left size r cells e one q)
+
+      pub bins_go : {w : BinTotals} → w ≡ together t v → SoFar (bin_row b) from all (at + n) (left - n) w
+      bins_go = goes so (bins_sound b) (bin_size_is b at left size) (sized_some size).1 (bins_whole b) (bin_adds_held b at left size r cells e one q)

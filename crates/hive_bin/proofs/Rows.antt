@@ -1,11 +1,12 @@
 -- Laws of a row of pieces: what is found in it, without the bound on their number. Assumes nothing.
 use Prim.Native.Nat.{ℕ, zero, suc, ◌+◌, ◌-◌, ◌≤◌, ◌<◌}
-use mathlib.Core.Path.{◌≡◌, refl, ap}
+use mathlib.Core.Path.{◌≡◌, refl, sym, ap}
 use mathlib.Core.Bool.{Bool, true, false, cond}
 use native.Mathlib.Omega.{arith}
 use lib.Dec.{eqb}
-use borrow.Author.Tests.{eq-eqb, ne_eqb}
-use Rattle.hive_bin.specs.Walk.{Walk, fault, join, nothing, Row, row_go, row}
+use borrow.Author.Tests.{eqb-true, eqb-false, eq-eqb, ne_eqb}
+use Rattle.std.specs.declared.option.Option.TheVariants.{Some, None}
+use Rattle.hive_bin.specs.Walk.{Walk, fault, join, nothing, Row, row_go, row, sized}
 
 -- each piece takes a byte or more, and lies within what is left
 abbrev pub Sound : Row → Type 0
@@ -29,6 +30,21 @@ some false m n e h = absurd (omega arith)
 pub none : (g : Bool) (m : ℕ) → (g ≡ true → 0 < m) → cond g m 0 ≡ 0 → g ≡ false
 none true m h e = absurd (let k = h refl in omega arith)
 none false m h e = refl
+
+-- the same of a size that is there, or of none
+pub sized_some : {n m : ℕ} → Some n ≡ sized m → (m ≡ n) × (0 < n)
+sized_some {n} {m} e = go (eqb m 0) refl e
+  where
+    go : (b : Bool) → eqb m 0 ≡ b → Some n ≡ cond b None (Some m) → (m ≡ n) × (0 < n)
+    go true h k = cc
+    go false h k = let i = eqb-false m 0 h in let q : n ≡ m = cc in (sym q, omega arith)
+
+pub sized-none : {m : ℕ} → None ≡ sized m → m ≡ 0
+sized-none {m} e = go (eqb m 0) refl e
+  where
+    go : (b : Bool) → eqb m 0 ≡ b → None ≡ cond b None (Some m) → m ≡ 0
+    go true h k = eqb-true m 0 h
+    go false h k = cc
 
 module _ (r : Row) (sound : Sound r) where
   -- any two bounds that are large enough find the same

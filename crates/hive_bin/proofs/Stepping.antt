@@ -14,13 +14,17 @@ use Rattle.words.specs.Words.{word32}
 use Rattle.words.specs.Paper.{Paper, success, refused, by, on_success}
 use Rattle.words.proofs.Papers.{refused-success, same-success, on_success_of}
 use Rattle.hive_bin.specs.declared.Spot.{Spot}
-use Rattle.hive_bin.specs.declared.Step.{Step}
-use Rattle.hive_bin.specs.declared.Step.TheVariants.{Cell, End, Refused}
 use Rattle.hive_bin.specs.Walk.{Found, Walk, found, fault, join, row, size_word, good_cell, cell_row, good_bin, bin_row, bins_in}
 use Rattle.hive_bin.specs.Steps.{start, Stepped, cell, end, next_of, cell_in, place_of, step_at, found_in, step_paper, cells_of, and_on, cells_by, Keeps, TellsAll, places, Rising}
 use Rattle.hive_bin.proofs.Rows.{row-end, row-bad, row_more}
 use Rattle.hive_bin.proofs.Pieces.{cell_facts, cells_sound, bin_facts, bins_sound}
 use Rattle.hive_bin.proofs.Steps.{behind-header, next_bin, next_cell, at-start, not_at_start}
+use Rattle.std.specs.Prelude.{Ok, Err}
+use Rattle.std.specs.declared.result.Result.{Result}
+use Rattle.std.specs.declared.option.Option.{Option}
+use Rattle.hive_bin.specs.declared.CellStep.{CellStep}
+use Rattle.words.specs.declared.Refusal.{Refusal}
+use Rattle.std.specs.declared.option.Option.TheVariants.{Some, None}
 
 -- ---- the cells of one stretch after another
 
@@ -250,15 +254,15 @@ module _ (b : List ℕ) where
 
 -- ---- from a spot to the end
 
-module _ (b : List ℕ) (step : Spot → Step) (keeps : Keeps b step) where
+module _ (b : List ℕ) (step : Spot → Result (Option CellStep) Refusal) (keeps : Keeps b step) where
   -- one answer, and those from the next place on
-  on_from : (s : Spot) (on : Spot → Paper (List Found)) (r : Step) → Says b (rest b s) s.place (step_paper r)
+  on_from : (s : Spot) (on : Spot → Paper (List Found)) (r : Result (Option CellStep) Refusal) → Says b (rest b s) s.place (step_paper r)
       → ((t : Spot) → Stands b t → s.place < t.place → on t ≡ rest b t) → and_on r on ≡ rest b s
-  on_from s on (Cell c) k go =
+  on_from s on (Ok (Some c)) k go =
       let l : s.place < c.next.place = omega (arith, k.from, k.on) in
       ap (on_success (λ (cs : List Found). found_in c ∷ cs)) (go c.next k.stands l) ∙ sym k.whole
-  on_from s on End k go = sym k
-  on_from s on (Refused f) k go = sym k.0
+  on_from s on (Ok None) k go = sym k
+  on_from s on (Err f) k go = sym k.0
 
   says_answer : (s : Spot) → Stands b s → Says b (rest b s) s.place (step_paper (step s))
   says_answer s h =

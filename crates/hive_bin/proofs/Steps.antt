@@ -1,5 +1,5 @@
 -- Laws of one step of a reader of cells, by what the code has read. Assumes nothing.
-use Prim.Native.Nat.{ℕ, ◌+◌, ◌-◌, ◌%◌, ◌^◌, ◌≤◌, ◌<◌}
+use Prim.Native.Nat.{ℕ, ◌+◌, ◌-◌, ◌^◌, ◌≤◌, ◌<◌}
 use mathlib.Core.Path.{◌≡◌, refl, sym, ap, subst, ◌∙◌}
 use mathlib.Core.List.{List}
 use mathlib.Core.Bool.{Bool, true, false, cond}
@@ -8,7 +8,7 @@ use lib.ListN.{length}
 use lib.Dec.{ltb, eqb}
 use lib.IntN.{ℤ, nat_abs}
 use lib.Signed.{mag}
-use borrow.Author.Tests.{ltb-false, eq-eqb, ne_eqb, lt-ltb, le-ltb}
+use borrow.Author.Tests.{ltb-false, eq-eqb, ne_eqb, le-ltb}
 use Rattle.words.specs.Refusals.{BAD_BIN, BAD_CELL}
 use Rattle.words.specs.Words.{word32}
 use Rattle.words.specs.Paper.{Paper, success, refused, by}
@@ -16,11 +16,12 @@ use Rattle.words.proofs.Papers.{refused-success, same-success}
 use Rattle.words.proofs.Signed.{read, held as read_held}
 use Rattle.hive_bin.specs.declared.Spot.{Spot}
 use Rattle.hive_bin.specs.declared.CellStep.{CellStep}
-use Rattle.hive_bin.specs.declared.Step.TheVariants.{Cell}
-use Rattle.hive_bin.specs.Walk.{Found, size_word, good_cell, cell_row, good_bin, bin_row, cell_size, bin_size}
+use Rattle.hive_bin.specs.Walk.{Found, size_word, good_cell, cell_row, good_bin, bin_row, cell_size, bin_size, sized}
 use Rattle.hive_bin.specs.Steps.{spot, Stepped, cell, end, next_of, left_in, cell_in, place_of, at_end, step_at, found_in, step_paper, InBin}
-use Rattle.hive_bin.proofs.Rows.{no_size, some_size}
-use Rattle.hive_bin.proofs.Pieces.{cell_facts, cells_sound, bins_sound, cell_size_held, bin_facts, no_bin, bin_size_held}
+use Rattle.hive_bin.proofs.Rows.{no_size, some_size, sized_some, sized-none}
+use Rattle.hive_bin.proofs.Pieces.{cell_facts, cells_sound, bins_sound, cell_size_held, bin_size_held, bin_size_is}
+use Rattle.std.specs.Prelude.{Ok}
+use Rattle.std.specs.declared.option.Option.TheVariants.{Some, None}
 
 -- ---- the next place, and the bytes for a cell
 
@@ -32,10 +33,6 @@ module _ (bin over place : ℕ) where
   pub next_cell : (place ≡ over → ⊥) → spot bin place ≡ next_of bin over place
   unfolding next_of
   next_cell e = simp (ne_eqb place over e)
-
-  pub in_header : place < bin + 32 → 0 ≡ left_in bin over place
-  unfolding left_in
-  in_header h = simp (lt-ltb place (bin + 32) h)
 
   pub behind-header : bin + 32 ≤ place → {n : ℕ} → n ≡ over - place → n ≡ left_in bin over place
   unfolding left_in
@@ -51,32 +48,31 @@ module _ (bin over place : ℕ) where
 
 -- ---- the cell at a place, by the size word that the code holds
 
-module _ (b : List ℕ) (bin over place : ℕ) {z : ℤ} (held : mag z < 2 ^ 31) (word : z ≡ size_word b place)
-    {left : ℕ} (room : left ≡ left_in bin over place) {n : ℕ} (size : n ≡ cell_size (read z) left) where
-  pub no_cell_in : n ≡ 0 → refused (by BAD_CELL place) ≡ cell_in b bin over place
+module _ (b : List ℕ) (bin over place : ℕ) {z : ℤ} (held : mag z < 2 ^ 31) (word : z ≡ size_word b place) where
+  abbrev read_size : ℕ
+  read_size = cell_size (read z) (left_in bin over place)
+
+  pub no_cell_in : None ≡ sized read_size → refused (by BAD_CELL place) ≡ cell_in b bin over place
   unfolding cell_in cell_row
   no_cell_in e =
-      let g = no_size (cell_row b) (cells_sound b) place left (cell_size_held b place held word left size ∙ e) in
-      let k : good_cell (size_word b place) (left_in bin over place) ≡ false = rw room at g in
+      let g = no_size (cell_row b) (cells_sound b) place (left_in bin over place) (sym (cell_size_held b place held word (left_in bin over place)) ∙ sized-none e) in
+      let k : good_cell (size_word b place) (left_in bin over place) ≡ false = g in
       simp k
 
-  module _ (h : 0 < n) where
-    read_cell : (good_cell (size_word b place) left ≡ true) × (nat_abs (size_word b place) ≡ n) × (n ≤ left)
+  module _ {n : ℕ} (size : Some n ≡ sized read_size) where
+    read_cell : (good_cell (size_word b place) (left_in bin over place) ≡ true) × (nat_abs (size_word b place) ≡ n) × (n ≤ left_in bin over place)
     unfolding cell_row
-    read_cell = some_size (cell_row b) (cells_sound b) place left n (cell_size_held b place held word left size) h
+    read_cell =
+        let k = sized_some size in
+        some_size (cell_row b) (cells_sound b) place (left_in bin over place) n (sym (cell_size_held b place held word (left_in bin over place)) ∙ k.0) k.1
 
-    pub cell_fits : (8 ≤ n) × (place + n ≤ over)
-    cell_fits =
-        let k = cell_facts (size_word b place) left read_cell.0 in
-        let m : n % 8 ≡ 0 = rw read_cell.1 at k.1 in
-        (omega arith, (left_fits bin over place (subst (λ (m : ℕ). n ≤ m) room read_cell.2) h).1)
+    pub cell_fits : place + n ≤ over
+    cell_fits = (left_fits bin over place read_cell.2 (sized_some size).1).1
 
     pub a_cell_in : {s : Spot} → s ≡ next_of bin over (place + n)
         → success (cell (record { place = place; size = read z }) s) ≡ cell_in b bin over place
     unfolding cell_in
-    a_cell_in e =
-        let k : good_cell (size_word b place) (left_in bin over place) ≡ true = rw room at read_cell.0 in
-        simp (k, read_cell.1) (rw (e, read_held held word) refl)
+    a_cell_in e = simp (read_cell.0, read_cell.1) (rw (e, read_held held word) refl)
 
 -- ---- a step, by the size of the bin that the code read
 
@@ -93,29 +89,19 @@ module _ (b : List ℕ) (s : Spot) where
   unfolding step_at
   ends_there e = simp (sym e)
 
-  module _ (on : false ≡ at_end b s) {n : ℕ} (size : n ≡ bin_size b s.bin (length b - s.bin)) where
-    pub no_bin_there : n ≡ 0 → refused (by BAD_BIN s.bin) ≡ step_at b s
+  module _ (on : false ≡ at_end b s) where
+    pub no_bin_there : None ≡ sized (bin_size b s.bin (length b - s.bin)) → refused (by BAD_BIN s.bin) ≡ step_at b s
     unfolding step_at bin_row
     no_bin_there e =
-        let g = no_size (bin_row b) (bins_sound b) s.bin (length b - s.bin) (bin_size_held b s.bin (length b - s.bin) size ∙ e) in
+        let g = no_size (bin_row b) (bins_sound b) s.bin (length b - s.bin) (sym (bin_size_held b s.bin (length b - s.bin)) ∙ sized-none e) in
         simp (sym on, g)
 
-    module _ (h : 0 < n) {place : ℕ} {a : Paper Stepped} (e : a ≡ cell_in b s.bin (s.bin + n) place) where
-      in_bin : place ≡ place_of s → a ≡ step_at b s
-      unfolding step_at bin_row
-      in_bin p =
-          let k = some_size (bin_row b) (bins_sound b) s.bin (length b - s.bin) n (bin_size_held b s.bin (length b - s.bin) size) h in
-          simp (sym on, k.0, k.1) (e ∙ ap (cell_in b s.bin (s.bin + n)) p)
-
-      pub first_cell : s.place ≡ s.bin → place ≡ s.bin + 32 → a ≡ step_at b s
-      first_cell f p = in_bin (simp (eq-eqb s.place s.bin f) p)
-
-      pub next_in_bin : (s.place ≡ s.bin → ⊥) → place ≡ s.place → a ≡ step_at b s
-      next_in_bin f p = in_bin (simp (ne_eqb s.place s.bin f) p)
-
--- no bin stands past the bins
-pub past_bins : (b : List ℕ) (bin : ℕ) → length b < bin → 0 ≡ bin_size b bin (length b - bin)
-past_bins b bin h = no_bin b bin (length b - bin) (λ e. let k = bin_facts b bin (length b - bin) e in omega arith)
+    pub in_bin : {n : ℕ} → Some n ≡ sized (bin_size b s.bin (length b - s.bin)) → {place : ℕ} → place ≡ place_of s
+        → {a : Paper Stepped} → a ≡ cell_in b s.bin (s.bin + n) place → a ≡ step_at b s
+    unfolding step_at bin_row
+    in_bin {n} size p e =
+        let k = some_size (bin_row b) (bins_sound b) s.bin (length b - s.bin) n (bin_size_is b s.bin (length b - s.bin) size) (sized_some size).1 in
+        simp (sym on, k.0, k.1) (e ∙ ap (cell_in b s.bin (s.bin + n)) p)
 
 -- ---- a cell that is told from any spot
 
@@ -158,5 +144,5 @@ module _ (b : List ℕ) (s : Spot) (c : Found) (t : Spot) where
       go false false h f = absurd (refused-success f)
 
 -- of an answer that the promise of `step_at` allows
-pub told_in_bin : (b : List ℕ) (s : Spot) (c : CellStep) → step_paper (Cell c) ≡ step_at b s → InBin b s (found_in c)
+pub told_in_bin : (b : List ℕ) (s : Spot) (c : CellStep) → step_paper (Ok (Some c)) ≡ step_at b s → InBin b s (found_in c)
 told_in_bin b s c e = cell_in_bin b s _ c.next (sym e)

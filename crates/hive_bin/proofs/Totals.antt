@@ -13,13 +13,13 @@ use Rattle.words.specs.Paper.{Told, success, refused, by, told}
 use Rattle.words.specs.declared.Refusal.{Refusal}
 use Rattle.words.proofs.Papers.{success-refused, same-told}
 use Rattle.hive_bin.specs.declared.BinTotals.{BinTotals}
-use Rattle.hive_bin.specs.declared.BinsAnswer.{BinsAnswer}
-use Rattle.hive_bin.specs.declared.BinsAnswer.TheVariants.{Totals, Refused}
 use Rattle.hive_bin.specs.Answers.{bins_paper}
 use Rattle.hive_bin.specs.Walk.{Found, found, bins_at}
 use Rattle.hive_bin.specs.Totals.{allocated_size, free_size, sum_over, answer_of, bins_of}
 use Rattle.hive_bin.proofs.Sums.{Fills}
 use Rattle.hive_bin.proofs.Image.{cut_short, image_fills}
+use Rattle.std.specs.Prelude.{Ok, Err}
+use Rattle.std.specs.declared.result.Result.{Result}
 
 -- the numbers that bins are refused by: 8, 10 and 11
 abbrev pub OfBins : ℕ → Type 0
@@ -62,10 +62,10 @@ module _ (s : List ℕ) (base size : ℕ) where
   totals n cs e = success_fills _ (ap answer_of e)
 
   -- and of the answer itself: of every answer that the promise of `check_bins` allows
-  pub answer_totals : (r : BinsAnswer) → bins_paper r ≡ bins_of s base size
-      → (t : BinTotals) → r ≡ Totals t → t.allocated_bytes + t.free_bytes + 32 * t.bins ≡ size
+  pub answer_totals : (r : Result BinTotals Refusal) → bins_paper r ≡ bins_of s base size
+      → (t : BinTotals) → r ≡ Ok t → t.allocated_bytes + t.free_bytes + 32 * t.bins ≡ size
   answer_totals r e t h = success_fills t (sym e ∙ ap bins_paper h)
 
-  pub answer_within : base + size ≤ length s → (r : BinsAnswer) → bins_paper r ≡ bins_of s base size
-      → (f : Refusal) → r ≡ Refused f → (base ≤ f.position) × (f.position < base + size)
+  pub answer_within : base + size ≤ length s → (r : Result BinTotals Refusal) → bins_paper r ≡ bins_of s base size
+      → (f : Refusal) → r ≡ Err f → (base ≤ f.position) × (f.position < base + size)
   answer_within h r e f g = let k = within h (told f) (sym e ∙ ap bins_paper g) in (k.0, k.1)

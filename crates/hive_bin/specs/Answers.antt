@@ -1,9 +1,8 @@
 -- What document 01 says for each case of the code's answer.
-use Rattle.words.specs.Paper.{Paper, success, refused, told}
+use Rattle.words.specs.Paper.{Paper, told, paper_of}
 use Rattle.hive_bin.specs.declared.BinTotals.{BinTotals}
-use Rattle.hive_bin.specs.declared.BinsAnswer.{BinsAnswer}
-use Rattle.hive_bin.specs.declared.BinsAnswer.TheVariants.{Totals, Refused}
+use Rattle.std.specs.declared.result.Result.{Result}
+use Rattle.words.specs.declared.Refusal.{Refusal}
 
-abbrev pub bins_paper : BinsAnswer → Paper BinTotals
-bins_paper (Totals t) = success t
-bins_paper (Refused f) = refused (told f)
+abbrev pub bins_paper : Result BinTotals Refusal → Paper BinTotals
+bins_paper = paper_of (λ t. t) told

@@ -4,12 +4,15 @@ use Prim.{Unit}
 use Rattle.std.specs.Prelude.{ℕ, zero, suc, ◌+◌, ◌-◌, ◌≤◌, ◌≡◌, List, [], ◌∷◌, map, Bool, true, cond, ◌&&◌, length, ltb, eqb, nat_abs}
 use Rattle.words.specs.Refusals.{BAD_BIN, BAD_CELL}
 use Rattle.words.specs.Words.{word32}
-use Rattle.words.specs.Paper.{Paper, success, refused, by, told, on_success}
+use Rattle.words.specs.Paper.{Paper, success, refused, by, told, paper_of, on_success}
 use Rattle.hive_bin.specs.declared.Spot.{Spot}
 use Rattle.hive_bin.specs.declared.CellStep.{CellStep}
-use Rattle.hive_bin.specs.declared.Step.{Step}
-use Rattle.hive_bin.specs.declared.Step.TheVariants.{Cell, End, Refused}
 use Rattle.hive_bin.specs.Walk.{Found, Walk, found, fault, size_word, good_cell, good_bin, bins_in}
+use Rattle.std.specs.Prelude.{Ok, Err}
+use Rattle.std.specs.declared.result.Result.{Result}
+use Rattle.std.specs.declared.option.Option.{Option}
+use Rattle.words.specs.declared.Refusal.{Refusal}
+use Rattle.std.specs.declared.option.Option.TheVariants.{Some, None}
 
 -- where a reader stands: at a place of the bin that begins at `bin`. The place of the bin's own start stands for its first cell; where
 -- the bins end there, for their end.
@@ -60,10 +63,16 @@ step_at b s =
 abbrev pub found_in : CellStep → Found
 found_in c = record { place = c.place; size = c.size }
 
-abbrev pub step_paper : Step → Paper Stepped
-step_paper (Cell c) = success (cell (found_in c) c.next)
-step_paper End = success end
-step_paper (Refused f) = refused (told f)
+abbrev pub stepped : Option CellStep → Stepped
+stepped (Some c) = cell (found_in c) c.next
+stepped None = end
+
+-- of one cell alone
+abbrev pub cell_paper : Result CellStep Refusal → Paper Stepped
+cell_paper = paper_of (λ c. stepped (Some c)) told
+
+abbrev pub step_paper : Result (Option CellStep) Refusal → Paper Stepped
+step_paper = paper_of stepped told
 
 -- A cell that is told from any spot, also one that no step led to, is a cell by document 01: it stands behind the header of a bin that
 -- checks and keeps to that bin. Proved as `told_in_bin` in proofs/Steps.antt.
@@ -82,23 +91,23 @@ cells_of (found n cs) = success cs
 cells_of (fault n p) = refused (by n p)
 
 -- what an answer tells and, where it is a cell, what is told from the next place on
-abbrev pub and_on : Step → (Spot → Paper (List Found)) → Paper (List Found)
-and_on (Cell c) on = on_success (λ (cs : List Found). found_in c ∷ cs) (on c.next)
-and_on End on = success []
-and_on (Refused f) on = refused (told f)
+abbrev pub and_on : Result (Option CellStep) Refusal → (Spot → Paper (List Found)) → Paper (List Found)
+and_on (Ok (Some c)) on = on_success (λ (cs : List Found). found_in c ∷ cs) (on c.next)
+and_on (Ok None) on = success []
+and_on (Err f) on = refused (told f)
 
 -- the cells that a function's answers tell, spot by spot, each from the place that the one before it told; `suc n` steps at most
-unfoldable pub cells_by : (Spot → Step) → ℕ → Spot → Paper (List Found)
+unfoldable pub cells_by : (Spot → Result (Option CellStep) Refusal) → ℕ → Spot → Paper (List Found)
 cells_by step zero s = and_on (step s) (λ t. success [])
 cells_by step (suc n) s = and_on (step s) (cells_by step n)
 
 -- a function keeps the promise of `step_at` at all spots of the bins
-abbrev pub Keeps : List ℕ → (Spot → Step) → Type 0
+abbrev pub Keeps : List ℕ → (Spot → Result (Option CellStep) Refusal) → Type 0
 Keeps b step = (s : Spot) → s.bin ≤ length b → s.place ≤ length b → step_paper (step s) ≡ step_at b s
 
 -- From the start to the end its answers tell exactly the cells of the definition, in order, or its first fault: in as many steps as
 -- there are bytes, and one for the end. Proved as `tells_all` in proofs/Stepping.antt.
-abbrev pub TellsAll : List ℕ → (Spot → Step) → Type 0
+abbrev pub TellsAll : List ℕ → (Spot → Result (Option CellStep) Refusal) → Type 0
 TellsAll b step = cells_by step (length b) start ≡ cells_of (bins_in b)
 
 -- ---- the cells' places

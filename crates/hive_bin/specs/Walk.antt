@@ -1,6 +1,8 @@
 -- Document 01, "Bins and cells": what stands in the bins. Up to the part on the image, all is said of the bins' own bytes, with places
 -- that count from the first of them.
 use Rattle.std.specs.Prelude.{ℕ, zero, suc, ◌+◌, ◌-◌, ◌%◌, List, [], ◌∷◌, ◌++◌, map, Bool, cond, ◌&&◌, length, take, drop, ltb, leb, eqb, ℤ, nat_abs}
+use Rattle.std.specs.declared.option.Option.{Option}
+use Rattle.std.specs.declared.option.Option.TheVariants.{Some, None}
 use Rattle.words.specs.Words.{word32, signed}
 use Rattle.words.specs.Refusals.{CUT_SHORT, BAD_BIN, BAD_CELL}
 
@@ -111,6 +113,10 @@ unfoldable pub bins_at : List ℕ → ℕ → ℕ → Walk
 bins_at s base size = cond (ltb (length s) (base + size)) (fault CUT_SHORT base) (shift base (bins_in (take size (drop base s))))
 
 -- ---- what the code reads
+
+-- a size, where there is one
+abbrev pub sized : ℕ → Option ℕ
+sized n = cond (eqb n 0) None (Some n)
 
 -- the size of a cell, by its size word, and of a bin, by its header; 0 where there is none
 unfoldable pub cell_size : ℤ → ℕ → ℕ

@@ -2,28 +2,21 @@
 #![tactic(auto)]
 
 ghost use Rattle.std.specs.Prelude.{◌≡◌, ◌+◌, ◌-◌, ◌≤◌, length};
-ghost use Rattle.hive_bin.specs.Walk.{row, cell_row, cell_size, header_size, bin_size, bins_in};
-ghost use Rattle.hive_bin.specs.Totals.{no_totals, one_bin, cell_totals, together, Room, answer_of, bins_of};
+ghost use Rattle.hive_bin.specs.Walk.{row, cell_row, cell_size, header_size, bin_size, sized, bins_in};
+ghost use Rattle.hive_bin.specs.Totals.{one_bin, cell_totals, together, Room, answer_of, bins_of};
 ghost use Rattle.hive_bin.specs.Answers.{bins_paper};
-ghost use Rattle.hive_bin.specs.Steps.{next_of, left_in, cell_in, at_end, step_at, step_paper};
-ghost use Rattle.words.specs.Paper.{refused, by};
+ghost use Rattle.hive_bin.specs.Steps.{next_of, left_in, cell_in, cell_paper, at_end, step_at, step_paper};
 
-use words::Refusal;
+use words::{Reason, Refusal};
 
 // How many bins there are, how many cells of each kind, and the bytes of these cells, their size words included.
-#[derive(Clone, Copy)]
+#[derive(Clone, Copy, Default)]
 pub struct BinTotals {
     pub bins: usize,
     pub allocated_cells: usize,
     pub free_cells: usize,
     pub allocated_bytes: usize,
     pub free_bytes: usize,
-}
-
-#[derive(Clone, Copy)]
-pub enum BinsAnswer {
-    Totals(BinTotals),
-    Refused(Refusal),
 }
 
 // Where a reader of cells stands: the start of a bin, and a place in it. The place of the bin's own start stands for its first cell;
@@ -42,153 +35,116 @@ pub struct CellStep {
     pub next: Spot,
 }
 
-// A cell, that none is left, or why there is none.
-#[derive(Clone, Copy)]
-pub enum Step {
-    Cell(CellStep),
-    End,
-    Refused(Refusal),
-}
-
 // The word of the bytes "hbin", and the bytes of a bin before its cells.
 const HBIN: u32 = 0x6E69_6268;
 
 const HEADER: usize = 32;
 
-// The totals of no bytes.
-fn no_totals() -> BinTotals
-    ensures { result ≡ no_totals }
-{
-    BinTotals {
-        bins: 0,
-        allocated_cells: 0,
-        free_cells: 0,
-        allocated_bytes: 0,
-        free_bytes: 0,
+impl BinTotals {
+    // Those of a bin without its cells.
+    pub fn one_bin() -> BinTotals
+        ensures { result ≡ one_bin }
+    {
+        BinTotals {
+            bins: 1,
+            ..BinTotals::default()
+        }
     }
-}
 
-// Those of a bin without its cells.
-fn one_bin() -> BinTotals
-    ensures { result ≡ one_bin }
-{
-    BinTotals {
-        bins: 1,
-        allocated_cells: 0,
-        free_cells: 0,
-        allocated_bytes: 0,
-        free_bytes: 0,
+    // Those of two stretches of bytes together.
+    fn plus(self, other: BinTotals) -> BinTotals
+        requires { Room self other }
+        ensures { result ≡ together self other }
+    {
+        BinTotals {
+            bins: self.bins + other.bins,
+            allocated_cells: self.allocated_cells + other.allocated_cells,
+            free_cells: self.free_cells + other.free_cells,
+            allocated_bytes: self.allocated_bytes + other.allocated_bytes,
+            free_bytes: self.free_bytes + other.free_bytes,
+        }
     }
 }
 
 // Those of a cell, by its size word: where that is negative the cell is allocated.
+#[tactic(auto, unfolding(crate::specs::Totals::cell_totals, crate::specs::Totals::allocated_one, crate::specs::Totals::free_one, crate::specs::Totals::allocated_size, crate::specs::Totals::free_size, crate::specs::Totals::negative))]
 pub fn cell_totals(word: i32) -> BinTotals
     ensures { result ≡ cell_totals word }
 {
     let size = words::magnitude(word) as usize;
     if word < 0 {
         BinTotals {
-            bins: 0,
             allocated_cells: 1,
-            free_cells: 0,
             allocated_bytes: size,
-            free_bytes: 0,
+            ..BinTotals::default()
         }
     } else {
         BinTotals {
-            bins: 0,
-            allocated_cells: 0,
             free_cells: 1,
-            allocated_bytes: 0,
             free_bytes: size,
+            ..BinTotals::default()
         }
     }
 }
 
-// Those of two stretches of bytes together.
-fn sum(a: BinTotals, b: BinTotals) -> BinTotals
-    requires { Room a b }
-    ensures { result ≡ together a b }
-{
-    BinTotals {
-        bins: a.bins + b.bins,
-        allocated_cells: a.allocated_cells + b.allocated_cells,
-        free_cells: a.free_cells + b.free_cells,
-        allocated_bytes: a.allocated_bytes + b.allocated_bytes,
-        free_bytes: a.free_bytes + b.free_bytes,
-    }
-}
-
-// The size of a cell by its size word, with `left` bytes to the end of its bin; 0 where the word is no cell's, as 0 itself.
-pub fn cell_size(word: i32, left: usize) -> usize
-    ensures { result ≡ cell_size word left }
+// The size of a cell by its size word, with `left` bytes to the end of its bin; none where the word is no cell's, as 0 itself.
+#[tactic(auto, unfolding(crate::specs::Walk::cell_size, crate::specs::Walk::good_cell))]
+pub fn cell_size(word: i32, left: usize) -> Option<usize>
+    ensures { result ≡ sized (cell_size word left) }
 {
     let size = words::magnitude(word) as usize;
-    if size % 8 != 0 {
-        return 0;
-    }
-    if left < size {
-        return 0;
-    }
-    size
+    let good = size != 0 && size % 8 == 0 && size <= left;
+    good.then_some(size)
 }
 
 // The cells that fill the `left` bytes from `at` on.
-fn check_cells(bins: &[u8], at: usize, left: usize) -> BinsAnswer
+fn check_cells(bins: &[u8], at: usize, left: usize) -> Result<BinTotals, Refusal>
     requires { at + left ≤ length bins.now }
     ensures { bins_paper result ≡ answer_of (row (cell_row bins.now) at left) }
 {
     let mut here = at;
     let mut rest = left;
-    let mut totals = no_totals();
+    let mut totals = BinTotals::default();
     while 0 < rest {
         let word = words::i32_at(bins, here);
-        let size = cell_size(word, rest);
-        if size == 0 {
-            return BinsAnswer::Refused(Refusal {
-                number: words::BAD_CELL,
+        let Some(size) = cell_size(word, rest) else {
+            return Err(Refusal {
+                reason: Reason::BadCell,
                 position: here,
             });
-        }
-        totals = sum(totals, cell_totals(word));
+        };
+        totals = totals.plus(cell_totals(word));
         here += size;
         rest -= size;
     }
-    BinsAnswer::Totals(totals)
+    Ok(totals)
 }
 
-// The size of the bin that begins at a place, by the three words of its header, with `left` bytes to the end of the bins; 0 where the words
-// are no bin's there, also where its size is 0.
-pub fn header_size(sign: u32, offset: u32, bytes: u32, at: usize, left: usize) -> usize
-    ensures { result ≡ header_size sign offset bytes at left }
+// The size of the bin that begins at a place, by the three words of its header, with `left` bytes to the end of the bins; none where the
+// words are no bin's there, also where its size is 0.
+#[tactic(auto, unfolding(crate::specs::Walk::header_size, crate::specs::Walk::good_header))]
+pub fn header_size(sign: u32, offset: u32, bytes: u32, at: usize, left: usize) -> Option<usize>
+    ensures { result ≡ sized (header_size sign offset bytes at left) }
 {
-    if left < HEADER {
-        return 0;
-    }
-    if sign != HBIN {
-        return 0;
-    }
     let own = offset as usize;
-    if own != at {
-        return 0;
-    }
     let whole = bytes as usize;
-    if whole % 4096 != 0 {
-        return 0;
-    }
-    if left < whole {
-        return 0;
-    }
-    whole
+    let good = HEADER <= left
+        && sign == HBIN
+        && own == at
+        && whole != 0
+        && whole % 4096 == 0
+        && whole <= left;
+    good.then_some(whole)
 }
 
-// The size of the bin at a place, with `left` bytes to the end of the bins; 0 where no bin stands there.
-fn bin_size(bins: &[u8], at: usize, left: usize) -> usize
-    requires { at + left ≤ length bins.now }
-    ensures { result ≡ bin_size bins.now at left }
+// The size of the bin at a place, with `left` bytes to the end of the bins; none where no bin stands there.
+#[tactic(auto, unfolding(crate::specs::Walk::bin_size, crate::specs::Walk::header_size, crate::specs::Walk::good_header))]
+fn bin_size(bins: &[u8], at: usize, left: usize) -> Option<usize>
+    requires { left ≤ length bins.now - at }
+    ensures { result ≡ sized (bin_size bins.now at left) }
 {
     if left < HEADER {
-        return 0;
+        return None;
     }
     let sign = words::u32_at(bins, at);
     let own = words::u32_at(bins, at + 4);
@@ -197,109 +153,80 @@ fn bin_size(bins: &[u8], at: usize, left: usize) -> usize
 }
 
 // The bins that a slice consists of, each with its cells before the next. Places count from its start.
-fn check_row(bins: &[u8]) -> BinsAnswer
+fn check_row(bins: &[u8]) -> Result<BinTotals, Refusal>
     ensures { bins_paper result ≡ answer_of (bins_in bins.now) }
 {
     let mut at: usize = 0;
     let mut left = bins.len();
-    let mut totals = no_totals();
+    let mut totals = BinTotals::default();
     while 0 < left {
-        let size = bin_size(bins, at, left);
-        if size == 0 {
-            return BinsAnswer::Refused(Refusal {
-                number: words::BAD_BIN,
+        let Some(size) = bin_size(bins, at, left) else {
+            return Err(Refusal {
+                reason: Reason::BadBin,
                 position: at,
             });
-        }
-        match check_cells(bins, at + HEADER, size - HEADER) {
-            BinsAnswer::Totals(cells) => {
-                totals = sum(totals, sum(one_bin(), cells));
-                at += size;
-                left -= size;
-            }
-            BinsAnswer::Refused(refusal) => {
-                return BinsAnswer::Refused(refusal);
-            }
-        }
+        };
+        let cells = check_cells(bins, at + HEADER, size - HEADER)?;
+        totals = totals.plus(BinTotals::one_bin().plus(cells));
+        at += size;
+        left -= size;
     }
-    BinsAnswer::Totals(totals)
+    Ok(totals)
 }
 
 // The bins of an image, `size` bytes from `base` on, and their cells.
-pub fn check_bins(image: &[u8], base: u32, size: u32) -> BinsAnswer
+pub fn check_bins(image: &[u8], base: u32, size: u32) -> Result<BinTotals, Refusal>
     ensures { bins_paper result ≡ bins_of image.now base size }
 {
     let start = base as usize;
     let bytes = size as usize;
-    let end = start + bytes;
-    if image.len() < end {
-        return BinsAnswer::Refused(Refusal {
-            number: words::CUT_SHORT,
+    if image.len() < start + bytes {
+        return Err(Refusal {
+            reason: Reason::CutShort,
             position: start,
         });
     }
-    match check_row(words::part(image, start, bytes)) {
-        BinsAnswer::Totals(totals) => BinsAnswer::Totals(totals),
-        BinsAnswer::Refused(refusal) => {
-            let position = start + refusal.position;
-            BinsAnswer::Refused(Refusal {
-                number: refusal.number,
-                position,
-            })
-        }
-    }
-}
-
-// A step that is refused, at a place.
-fn no_step(number: u32, place: usize) -> Step
-    ensures { step_paper result ≡ refused (by number place) }
-{
-    Step::Refused(Refusal {
-        number,
-        position: place,
+    check_row(words::part(image, start, bytes)).map_err(|refusal| Refusal {
+        position: start + refusal.position,
+        ..refusal
     })
 }
 
 // Where a reader stands next, behind a cell that ends at `place`, in the bin from `bin` to `over`.
+#[tactic(auto, unfolding(crate::specs::Steps::next_of))]
 fn next_of(bin: usize, over: usize, place: usize) -> Spot
     ensures { result ≡ next_of bin over place }
 {
-    if place == over {
-        return Spot {
-            bin: over,
-            place: over,
-        };
-    }
+    let bin = if place == over { over } else { bin };
     Spot { bin, place }
 }
 
-// The bytes for a cell at a place of the bin from `bin` to `over`; 0 where that is not behind its header.
-fn left_in(bin: usize, over: usize, place: usize) -> usize
+// The size of the cell at a place of the bin from `bin` to `over`, by its size word; none where no cell stands there, behind the header.
+#[tactic(auto, unfolding(crate::specs::Steps::left_in, crate::specs::Walk::cell_size, crate::specs::Walk::good_cell))]
+fn size_in(word: i32, bin: usize, over: usize, place: usize) -> Option<usize>
     requires { bin + 32 ≤ over }
-    ensures { result ≡ left_in bin over place }
+    ensures { result ≡ sized (cell_size word (left_in bin over place)) }
 {
     if place < bin + HEADER {
-        return 0;
+        return None;
     }
-    if over < place {
-        return 0;
-    }
-    over - place
+    cell_size(word, over.saturating_sub(place))
 }
 
 // The cell at a place of the bin from `bin` to `over`.
-fn cell_in(bins: &[u8], bin: usize, over: usize, place: usize) -> Step
+fn cell_in(bins: &[u8], bin: usize, over: usize, place: usize) -> Result<CellStep, Refusal>
     requires { bin + 32 ≤ over }
-    ensures { step_paper result ≡ cell_in bins.now bin over place }
+    ensures { cell_paper result ≡ cell_in bins.now bin over place }
 {
     let word = words::i32_at(bins, place);
-    let left = left_in(bin, over, place);
-    let size = cell_size(word, left);
-    if size == 0 {
-        return no_step(words::BAD_CELL, place);
-    }
+    let Some(size) = size_in(word, bin, over, place) else {
+        return Err(Refusal {
+            reason: Reason::BadCell,
+            position: place,
+        });
+    };
     let next = next_of(bin, over, place + size);
-    Step::Cell(CellStep {
+    Ok(CellStep {
         place,
         size: word,
         next,
@@ -307,43 +234,33 @@ fn cell_in(bins: &[u8], bin: usize, over: usize, place: usize) -> Step
 }
 
 // Whether the bins end at a spot.
+#[tactic(auto, unfolding(crate::specs::Steps::at_end))]
 fn at_end(bins: &[u8], spot: Spot) -> bool
     ensures { result ≡ at_end bins.now spot }
 {
-    if spot.place != spot.bin {
-        return false;
-    }
-    spot.bin == bins.len()
-}
-
-// The size of the bin at any place; 0 where none stands there.
-fn bin_size_at(bins: &[u8], bin: usize) -> usize
-    ensures { result ≡ bin_size bins.now bin (length bins.now - bin) }
-{
-    if bins.len() < bin {
-        return 0;
-    }
-    let left = bins.len() - bin;
-    bin_size(bins, bin, left)
+    spot.place == spot.bin && spot.bin == bins.len()
 }
 
 // One step of a reader of cells, from any spot of any bytes: the cell there and the next spot, the end, or the fault that the check
 // of these bytes gives there. Places count from their start.
-pub fn step_at(bins: &[u8], spot: Spot) -> Step
+pub fn step_at(bins: &[u8], spot: Spot) -> Result<Option<CellStep>, Refusal>
     ensures { step_paper result ≡ step_at bins.now spot }
 {
     let bin = spot.bin;
-    let ended = at_end(bins, spot);
-    if ended {
-        return Step::End;
+    if at_end(bins, spot) {
+        return Ok(None);
     }
-    let size = bin_size_at(bins, bin);
-    if size == 0 {
-        return no_step(words::BAD_BIN, bin);
-    }
-    let over = bin + size;
-    if spot.place == bin {
-        return cell_in(bins, bin, over, bin + HEADER);
-    }
-    cell_in(bins, bin, over, spot.place)
+    let Some(size) = bin_size(bins, bin, bins.len().saturating_sub(bin)) else {
+        return Err(Refusal {
+            reason: Reason::BadBin,
+            position: bin,
+        });
+    };
+    let place = if spot.place == bin {
+        bin + HEADER
+    } else {
+        spot.place
+    };
+    let cell = cell_in(bins, bin, bin + size, place)?;
+    Ok(Some(cell))
 }

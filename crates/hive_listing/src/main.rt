@@ -1,11 +1,8 @@
 // Lists one hive: standard input to lines on standard output (document 01, "Listing program").
 #![tactic(auto)]
 
-mod console;
-mod listing;
-mod totals;
+use hive_console::input;
 
 fn main(rt: HostRuntime) {
-    let mut input = rt.stdin();
-    listing::list_input(&mut input);
+    input::list_input(&mut rt.stdin(), root_listing::list);
 }

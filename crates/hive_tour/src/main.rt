@@ -2,20 +2,13 @@
 // taken apart by `match`, and the first refusal ends a step with its number and position.
 #![tactic(auto)]
 
-ghost use Rattle.io.specs.Counts.{IsPrefixLen as Within};
-
-use base_block::BlockAnswer;
-use cell_key_node::{KeyAnswer, KeyNode, ValueListAnswer};
-use cell_key_value::{KeyValue, LookupAnswer, ValueAnswer};
-use deleted_keys::DeletedAnswer;
-use hive_bin::BinsAnswer;
-use key_totals::KeptAnswer;
-use list_conversion::ConversionAnswer;
+use cell_key_node::KeyNode;
+use cell_key_value::KeyValue;
+use console::input::read_full;
+use console::{say, say_bytes};
 use std::fs::File;
-use std::io::Read;
 use std::rt::Files;
-use sub_key_walk::WalkAnswer;
-use value_data::DataAnswer;
+use words::Reason;
 
 // Where the bins begin, the most lists that the walk reads, and the most subkeys that are visited.
 const BASE: u32 = 4096;
@@ -24,64 +17,43 @@ const BUDGET: u32 = 1024;
 
 const FEW: u32 = 3;
 
-fn say(s: &[u8]) {
-    io::write_all(1, s);
-}
-
-fn number(n: u64) {
-    say(b" ");
-    io::print_decimal(1, n);
-}
-
-fn line() {
-    say(b"\n");
-}
-
 // A record by its position and its name.
 fn named(position: usize, name: &[u8]) {
-    number(position as u64);
-    say(b" ");
-    say(name);
+    say!(" {position} ");
+    say_bytes(name);
 }
 
-fn refused(n: u32, position: usize) {
-    say(b" refused");
-    number(n as u64);
-    number(position as u64);
-    line();
+fn refused(reason: Reason, position: usize) {
+    say!(" refused {} {position}\n", reason.number());
 }
 
 fn bytes(row: &[u8]) {
-    let mut i: usize = 0;
-    while i < row.len() {
-        say(b" ");
-        io::print_hex(1, words::byte_at(row, i) as u64, 2);
-        i += 1;
+    for byte in row {
+        say!(" {byte:02x}");
     }
-    line();
+    say!("\n");
 }
 
 // Step 8: the data of a value, into a lent buffer. A buffer that is too small is refused by 9, with the places needed.
 fn data(image: &[u8], minor: u32, value: KeyValue) {
     let mut out = [0u8; 64];
-    say(b"  data");
+    say!("  data");
     match value_data::value_data_of(image, BASE, minor, value, &mut out) {
-        DataAnswer::Refused(f) => refused(f.number, f.position),
-        DataAnswer::Copied(n) => bytes(words::part(&out, 0, n as usize)),
+        Err(f) => refused(f.reason, f.position),
+        Ok(n) => bytes(words::part(&out, 0, n as usize)),
     }
 }
 
 // Step 7: one value by its name.
 fn lookup(image: &[u8], minor: u32, key: KeyNode, name: &[u8]) {
-    say(b"  lookup");
+    say!("  lookup");
     match key_in_place::find_value_of(image, key, name) {
-        LookupAnswer::Refused(f) => refused(f.number, f.position),
-        LookupAnswer::Found(found) => {
+        Err(f) => refused(f.reason, f.position),
+        Ok(found) => {
             let position = found.position;
             named(position, cell_key_value::value_name(image, position));
-            line();
-            let v = found.value;
-            data(image, minor, v);
+            say!("\n");
+            data(image, minor, found.value);
         }
     }
 }
@@ -89,26 +61,13 @@ fn lookup(image: &[u8], minor: u32, key: KeyNode, name: &[u8]) {
 // Step 6: a value record and its name. A value list gives offsets as they are stored, without the base.
 fn value(image: &[u8], offset: u32) {
     let position = offset as usize + BASE as usize;
-    say(b"  value");
+    say!("  value");
     match cell_key_value::read_key_value(image, position) {
-        ValueAnswer::Refused(f) => refused(f.number, f.position),
-        ValueAnswer::Value(v) => {
+        Err(f) => refused(f.reason, f.position),
+        Ok(v) => {
             named(position, cell_key_value::value_name(image, position));
-            number(v.data_type_raw as u64);
-            number(v.data_size_raw as u64);
-            line();
+            say!(" {} {}\n", v.data_type_raw, v.data_size_raw);
         }
-    }
-}
-
-fn each_value(image: &[u8], out: &[u32], n: u32) {
-    let mut i: usize = 0;
-    while i < out.len() {
-        if n as usize <= i {
-            return;
-        }
-        value(image, out[i]);
-        i += 1;
     }
 }
 
@@ -116,34 +75,27 @@ fn each_value(image: &[u8], out: &[u32], n: u32) {
 fn values(image: &[u8], key: KeyNode) {
     let mut out = [0u32; 16];
     match key_in_place::value_list_of(image, key, &mut out) {
-        ValueListAnswer::Refused(f) => refused(f.number, f.position),
-        ValueListAnswer::Listed(n) => each_value(image, &out, n),
+        Err(f) => refused(f.reason, f.position),
+        Ok(n) => {
+            for offset in out.iter().take(n as usize) {
+                value(image, *offset);
+            }
+        }
     }
 }
 
 // A subkey: its record and name, its values, and one of them by name, with its data. A walk gives positions, with the base in them.
 fn sub_key(image: &[u8], minor: u32, offset: u32) {
     let position = offset as usize;
-    say(b" key");
+    say!(" key");
     match cell_key_node::read_key_node(image, position, BASE) {
-        KeyAnswer::Refused(f) => refused(f.number, f.position),
-        KeyAnswer::Key(key) => {
+        Err(f) => refused(f.reason, f.position),
+        Ok(key) => {
             named(position, cell_key_node::key_name(image, position));
-            line();
+            say!("\n");
             values(image, key);
             lookup(image, minor, key, b"VALUE1");
         }
-    }
-}
-
-fn each_sub_key(image: &[u8], minor: u32, out: &[u32], n: u32) {
-    let mut i: usize = 0;
-    while i < out.len() {
-        if n as usize <= i {
-            return;
-        }
-        sub_key(image, minor, out[i]);
-        i += 1;
     }
 }
 
@@ -151,13 +103,12 @@ fn each_sub_key(image: &[u8], minor: u32, out: &[u32], n: u32) {
 fn sub_keys(image: &[u8], minor: u32, key: KeyNode) {
     let mut out = [0u32; 64];
     match key_in_place::sub_keys_of(image, key, BUDGET, &mut out) {
-        WalkAnswer::Refused(f) => refused(f.number, f.position),
-        WalkAnswer::Read(c) => {
-            number(c.kept as u64);
-            number(c.dropped as u64);
-            line();
-            let few = if c.kept < FEW { c.kept } else { FEW };
-            each_sub_key(image, minor, &out, few);
+        Err(f) => refused(f.reason, f.position),
+        Ok(c) => {
+            say!(" {} {}\n", c.kept, c.dropped);
+            for offset in out.iter().take(c.kept.min(FEW) as usize) {
+                sub_key(image, minor, *offset);
+            }
         }
     }
 }
@@ -165,74 +116,48 @@ fn sub_keys(image: &[u8], minor: u32, key: KeyNode) {
 // Step 10: a key into a table of totals, with the number of its subkeys. A call gives the table back, and the next call takes it; what
 // is asked again and again is then the stored total, and nothing is walked for it. Another image has another table.
 fn totals(image: &[u8], key: KeyNode) {
-    say(b" totals");
+    say!(" totals");
     let changed = key_totals::add(key_totals::empty(), image, key, BUDGET);
-    let table = changed.table;
-    let answer = changed.answer;
-    match answer {
-        KeptAnswer::Refused(f) => refused(f.number, f.position),
-        KeptAnswer::Kept(n) => {
-            number(n as u64);
-            number(key_totals::total_of(table));
-            line();
-        }
+    match changed.answer {
+        Err(f) => refused(f.reason, f.position),
+        Ok(n) => say!(" {n} {}\n", key_totals::total_of(changed.table)),
     }
 }
 
 // Step 11: the same walk read strictly, with the minor version that the base block tells: a copy whose lists are not as its version
 // permits, or not each in an allocated cell of its own, is refused. What is accepted is what step 4 gave.
 fn strictly(image: &[u8], minor: u32, key: KeyNode) {
-    say(b" strictly");
+    say!(" strictly");
     match key_in_place::strict_sub_key_counts_of(image, key, BUDGET, minor) {
-        WalkAnswer::Refused(f) => refused(f.number, f.position),
-        WalkAnswer::Read(c) => {
-            number(c.kept as u64);
-            number(c.dropped as u64);
-            line();
-        }
+        Err(f) => refused(f.reason, f.position),
+        Ok(c) => say!(" {} {}\n", c.kept, c.dropped),
     }
 }
 
-// Whether two lists have the same bytes from behind the size word to an end.
-fn same_list(one: &[u8], two: &[u8], end: usize) -> bool {
-    let mut i: usize = 4;
-    while i < end {
-        if words::byte_at(one, i) != words::byte_at(two, i) {
-            return false;
-        }
-        i += 1;
-    }
-    true
-}
-
-// What came back, beside the list that is stored: kind, count and entries.
-fn compared(stored: &[u8], back: &[u8], end: usize) {
-    number(back.len() as u64);
-    if same_list(stored, back, end) {
-        say(b" same");
-    } else {
-        say(b" other");
-    }
-    line();
+// What came back, beside the list that is stored: kind, count and entries, which stand behind the size word.
+fn compared(stored: &[u8], back: &[u8], size: usize) {
+    let same = words::part(stored, 4, size) == words::part(back, 4, size);
+    let word = if same { "same" } else { "other" };
+    say!(" {} {word}\n", back.len());
 }
 
 fn back_as_lh(image: &[u8], stored: &[u8], cell: &[u8]) {
     let mut out = [0u8; 1024];
-    let end = 8 + 8 * (words::u16_at(stored, 6) as usize);
-    number(cell.len() as u64);
+    let size = 4 + 8 * words::u16_at(stored, 6) as usize;
+    say!(" {}", cell.len());
     match list_conversion::write_lh(cell, 0, image, BASE, &mut out) {
-        ConversionAnswer::Refused(f) => refused(f.number, f.position),
-        ConversionAnswer::Written(n) => compared(stored, words::part(&out, 0, n as usize), end),
+        Err(f) => refused(f.reason, f.position),
+        Ok(n) => compared(stored, words::part(&out, 0, n as usize), size),
     }
 }
 
 fn back_as_li(stored: &[u8], cell: &[u8]) {
     let mut out = [0u8; 1024];
-    let end = 8 + 4 * (words::u16_at(stored, 6) as usize);
-    number(cell.len() as u64);
+    let size = 4 + 4 * words::u16_at(stored, 6) as usize;
+    say!(" {}", cell.len());
     match list_conversion::write_li(cell, 0, &mut out) {
-        ConversionAnswer::Refused(f) => refused(f.number, f.position),
-        ConversionAnswer::Written(n) => compared(stored, words::part(&out, 0, n as usize), end),
+        Err(f) => refused(f.reason, f.position),
+        Ok(n) => compared(stored, words::part(&out, 0, n as usize), size),
     }
 }
 
@@ -240,8 +165,8 @@ fn back_as_li(stored: &[u8], cell: &[u8]) {
 fn converted_li(image: &[u8], position: usize) {
     let mut out = [0u8; 1024];
     match list_conversion::write_lh(image, position, image, BASE, &mut out) {
-        ConversionAnswer::Refused(f) => refused(f.number, f.position),
-        ConversionAnswer::Written(n) => {
+        Err(f) => refused(f.reason, f.position),
+        Ok(n) => {
             back_as_li(
                 words::from(image, position),
                 words::part(&out, 0, n as usize),
@@ -255,16 +180,16 @@ fn converted_li(image: &[u8], position: usize) {
 fn converted(image: &[u8], key: KeyNode) {
     let mut out = [0u8; 1024];
     let position = key.sub_keys_list_offset_relative as usize + BASE as usize;
-    say(b" converted");
+    say!(" converted");
     match list_conversion::write_li(image, position, &mut out) {
-        ConversionAnswer::Refused(f) => {
-            if f.number == words::BAD_SIGN {
+        Err(f) => {
+            if f.reason == Reason::BadSign {
                 converted_li(image, position);
             } else {
-                refused(f.number, f.position);
+                refused(f.reason, f.position);
             }
         }
-        ConversionAnswer::Written(n) => {
+        Ok(n) => {
             back_as_lh(
                 image,
                 words::from(image, position),
@@ -276,15 +201,15 @@ fn converted(image: &[u8], key: KeyNode) {
 
 // Step 3: the root key, at the root offset plus the base. The offset is signed, and a negative one is refused by 2.
 fn root(image: &[u8], minor: u32, offset: i32) {
-    say(b" root");
+    say!(" root");
     if offset < 0 {
-        refused(words::OUTSIDE, 0);
+        refused(Reason::Outside, 0);
         return;
     }
     let position = words::above_zero(offset) as usize + BASE as usize;
     match cell_key_node::read_key_node(image, position, BASE) {
-        KeyAnswer::Refused(f) => refused(f.number, f.position),
-        KeyAnswer::Key(key) => {
+        Err(f) => refused(f.reason, f.position),
+        Ok(key) => {
             named(position, cell_key_node::key_name(image, position));
             sub_keys(image, minor, key);
             totals(image, key);
@@ -297,24 +222,20 @@ fn root(image: &[u8], minor: u32, offset: i32) {
 // Step 9: the keys that were deleted, by the positions of their records, into a lent buffer. The bins are checked by this too.
 fn deleted(image: &[u8], size: u32) {
     let mut out = [0u64; 16];
-    say(b" deleted");
+    say!(" deleted");
     match deleted_keys::deleted_keys(image, BASE, size, &mut out) {
-        DeletedAnswer::Refused(f) => refused(f.number, f.position),
-        DeletedAnswer::Listed(n) => {
-            number(n as u64);
-            line();
-        }
+        Err(f) => refused(f.reason, f.position),
+        Ok(n) => say!(" {n}\n"),
     }
 }
 
 // Step 2: bins and cells, before anything in them is believed.
 fn bins(image: &[u8], minor: u32, size: u32, root_offset: i32) {
-    say(b" bins");
+    say!(" bins");
     match hive_bin::check_bins(image, BASE, size) {
-        BinsAnswer::Refused(f) => refused(f.number, f.position),
-        BinsAnswer::Totals(t) => {
-            number(t.bins as u64);
-            line();
+        Err(f) => refused(f.reason, f.position),
+        Ok(t) => {
+            say!(" {}\n", t.bins);
             root(image, minor, root_offset);
             deleted(image, size);
         }
@@ -324,8 +245,8 @@ fn bins(image: &[u8], minor: u32, size: u32, root_offset: i32) {
 // Step 1: the base block, which tells the minor version, the bins' size and where the root key is.
 fn tour(image: &[u8]) {
     match base_block::read_base_block(image) {
-        BlockAnswer::Refused(f) => refused(f.number, f.position),
-        BlockAnswer::Block(b) => bins(
+        Err(f) => refused(f.reason, f.position),
+        Ok(b) => bins(
             image,
             b.minor_version,
             b.hive_bins_data_size,
@@ -334,36 +255,10 @@ fn tour(image: &[u8]) {
     }
 }
 
-// One read: how many bytes came, none at the end and where it fails.
-fn read_once<R: Read>(input: &mut R, rest: &mut [u8]) -> usize
-    ensures { Within result rest.new }
-{
-    match input.read(rest) {
-        Ok(bytes) => bytes,
-        Err(_) => 0,
-    }
-}
-
-// Reads until the buffer is full, the input ends or a read fails: how many bytes came.
-fn read_full<R: Read>(input: &mut R, buffer: &mut [u8]) -> usize
-    ensures { Within result buffer.new }
-{
-    let mut bytes: usize = 0;
-    while bytes < buffer.len() {
-        let got = read_once(input, &mut buffer[bytes..]);
-        if got == 0 {
-            break;
-        }
-        bytes += got;
-    }
-    bytes
-}
-
 fn hive<R: Files>(rt: &R, path: &str) {
-    say(path.as_bytes());
-    line();
+    say!("{path}\n");
     match File::open(rt, path) {
-        Err(_) => say(b" is not there\n"),
+        Err(_) => say!(" is not there\n"),
         Ok(mut file) => {
             let mut buffer = io::large_buffer();
             let n = read_full(&mut file, &mut buffer);

@@ -11,8 +11,6 @@ use Rattle.words.proofs.Buffers.{untouched}
 use Rattle.sub_key_walk.proofs.Demand.{demand_3}
 use Rattle.cell_key_node.specs.Key.{key_at, key_paper}
 use Rattle.cell_key_node.specs.declared.KeyNode.{KeyNode}
-use Rattle.cell_key_node.specs.declared.KeyAnswer.{KeyAnswer}
-use Rattle.cell_key_node.specs.declared.KeyAnswer.TheVariants.{Key}
 use Rattle.cell_key_node.proofs.Keys.{key_stands}
 use Rattle.key_in_place.specs.Place.{ReadsAs, behind}
 use Rattle.key_in_place.specs.Demands.{Passes, Demands, Refuses, Untouched, Refused21}
@@ -20,10 +18,13 @@ use Rattle.key_in_place.proofs.Place.{in_place}
 use Rattle.key_in_place.proofs.Behind.{here, elsewhere, not_here}
 use Rattle.key_in_place.proofs.Never.{Other, measured_never, answer_never, strict_never, strict_answer_never, values_never, lookup_never}
 use Rattle.key_in_place.proofs.Same.{reads_same}
+use Rattle.std.specs.Prelude.{Ok}
+use Rattle.std.specs.declared.result.Result.{Result}
+use Rattle.words.specs.declared.Refusal.{Refusal}
 
 -- ---- the check
 
-pub passes : (image : List ℕ) (p base : ℕ) (r : KeyAnswer) → key_paper r ≡ key_at image p base → (key : KeyNode) → r ≡ Key key → Passes image p base key
+pub passes : (image : List ℕ) (p base : ℕ) (r : (Result KeyNode Refusal)) → key_paper r ≡ key_at image p base → (key : KeyNode) → r ≡ Ok key → Passes image p base key
 passes image p base r x key q = record {
   there = λ b e. e ∙ (in_place image key).1 (stands image reads);
   other = λ image' b e. ((λ t. back image' ((in_place image' key).0 (sym e ∙ t))), (λ t. e ∙ (in_place image' key).1 (stands image' t)));

@@ -1,8 +1,9 @@
 -- No function on plain numbers is refused by OTHER PLACE. Assumes nothing.
-use mathlib.Core.Path.{◌≡◌, refl, ap, sym, ◌∙◌}
-use mathlib.Core.Logic.{◌⊎◌, inl, inr}
+use Prim.{tt}
+use mathlib.Core.Path.{◌≡◌, refl}
+use mathlib.Core.Bool.{Bool, not}
 use mathlib.Core.List.{List, [], ◌∷◌}
-use Prim.Native.Nat.{ℕ, ◌+◌, ◌*◌, ◌<◌}
+use Prim.Native.Nat.{ℕ, zero, suc, ◌+◌, ◌*◌, ◌<◌}
 use native.Mathlib.Omega.{arith}
 use lib.Dec.{ltb, leb, eqb}
 use lib.IntN.{ℤ}
@@ -13,19 +14,15 @@ use Rattle.words.specs.Paper.{Told, Paper, success, refused, checked}
 use Rattle.words.specs.Buffers.{needing}
 use Rattle.words.proofs.Every.{Every, every_success, every_refused, every_cond, every_then, every_room}
 use Rattle.sub_key_list.specs.Lists as lists
-use Rattle.sub_key_list.specs.Lists.{Listed, list_at}
+use Rattle.sub_key_list.specs.Lists.{Listed, kind_at, list_at}
+use Rattle.sub_key_list.specs.Strict.{barred, own_cell, list_bytes, strict_checks, strict_at}
 use Rattle.sub_key_list.proofs.Cases.{list_every}
-use Rattle.sub_key_walk.specs.Trace.{walk_from}
-use Rattle.sub_key_walk.specs.Answers.{COUNT_LIMIT, measured, full_of, answer_of, walk_paper}
-use Rattle.sub_key_walk.specs.Strict.{strict_measured, strict_answer_of}
-use Rattle.sub_key_walk.specs.Profiles.{Added}
-use Rattle.sub_key_walk.specs.declared.Counts.{Counts}
-use Rattle.sub_key_walk.specs.declared.WalkRefusal.{WalkRefusal}
-use Rattle.sub_key_walk.specs.declared.WalkAnswer.{WalkAnswer}
-use Rattle.sub_key_walk.specs.declared.WalkAnswer.TheVariants.{Read, Refused}
+use Rattle.sub_key_walk.specs.Trace.{Event, each, below, trace, ordinary, LEVELS}
+use Rattle.sub_key_walk.specs.Answers.{COUNT_LIMIT, from_record, measured, full_of, answer_of}
+use Rattle.sub_key_walk.specs.Free.{All}
+use Rattle.sub_key_walk.specs.Strict.{strict, strict_measured, strict_answer_of}
 use Rattle.sub_key_walk.proofs.Refusals.{Sound, record_every}
-use Rattle.sub_key_walk.proofs.Traces.{event_of, trace_all}
-use Rattle.sub_key_walk.proofs.Profiles.{counts_profiles}
+use Rattle.sub_key_walk.proofs.Traces.{append_all}
 use Rattle.cell_key_node.specs.Records.{fault_at}
 use Rattle.cell_key_node.specs.ValueList.{Placed, nowhere, at, position_of, place_of, counted, value_list_of, entries_of}
 use Rattle.cell_key_node.proofs.Checks.{exactly}
@@ -46,15 +43,46 @@ Other t = Not OTHER_PLACE t
 -- ---- the walk: it is refused by no number that document 02 adds behind 20
 
 module _ (n : ℕ) (above : 20 < n) where
-  sound_at : (s : List ℕ) (base p : ℕ) (h : Paper Listed) → list_at s p ≡ h → Sound (Not n) (event_of s base p h)
-  sound_at s base p (success (lists.leaf k z m)) e = tt
-  sound_at s base p (success (lists.index m)) e = tt
-  sound_at s base p (refused t) e = λ l m. list_every (Not n) s p (λ q. omega arith) (λ q. omega arith) (λ q. omega arith) t e m
+  -- a list, read in the ordinary way and strictly
+  list_never : (s : List ℕ) (p : ℕ) → Every (Not n) (list_at s p)
+  list_never s p = list_every (Not n) s p (λ m. omega arith) (λ m. omega arith) (λ m. omega arith)
+
+  checks_never : (s : List ℕ) (minor : ℕ) (named : Bool) (p : ℕ) → Every (Not n) (strict_checks s minor named p)
+  unfolding strict_checks
+  checks_never s minor named p =
+      every_cond (Not n) (barred minor named (kind_at s p)) (every_refused (Not n) (λ m. omega arith))
+      (every_cond (Not n) (not (own_cell s p (list_bytes s p))) (every_refused (Not n) (λ m. omega arith)) (every_success (Not n) tt))
+
+  strict_list_never : (s : List ℕ) (minor : ℕ) (named : Bool) (p : ℕ) → Every (Not n) (strict_at s minor named p)
+  unfolding strict_at
+  strict_list_never s minor named p =
+      every_then (Not n) (list_at s p) (list_never s p) (every_then (Not n) (strict_checks s minor named p) (checks_never s minor named p) (list_never s p))
+
+  -- the lists that are reached, and what a budget makes of them, whichever way each is read
+  module _ (hd : ℕ → ℕ → Paper Listed) (reads : (levels p : ℕ) → Every (Not n) (hd levels p)) (s : List ℕ) (base : ℕ) where
+    each_sound : (f : ℕ → List Event) → ((o : ℕ) → All (Sound (Not n)) (f o)) → (k pos : ℕ) → All (Sound (Not n)) (each f s k pos)
+    unfolding each All
+    each_sound f g zero pos = tt
+    each_sound f g (suc k) pos = append_all (Sound (Not n)) (f _) _ (g _) (each_sound f g k (pos + 4))
+
+    below_sound : (f : ℕ → List Event) → ((o : ℕ) → All (Sound (Not n)) (f o)) → (p : ℕ) (h : Paper Listed) → Every (Not n) h
+        → All (Sound (Not n)) (below f s base p h)
+    unfolding below All
+    below_sound f g p (success (lists.leaf k z m)) e = (tt, tt)
+    below_sound f g p (success (lists.index m)) e = (tt, each_sound f g m (p + 8))
+    below_sound f g p (refused t) e = ((λ l. e t refl), tt)
+
+    trace_sound : (levels o : ℕ) → All (Sound (Not n)) (trace hd levels s base o)
+    unfolding trace All
+    trace_sound zero o = ((λ l m. omega arith), tt)
+    trace_sound (suc k) o = below_sound (trace hd k s base) (trace_sound k) (o + base) (hd (suc k) (o + base)) (reads (suc k) (o + base))
+
+    record_never : (count list budget : ℕ) → Every (Not n) (from_record count budget (trace hd LEVELS s base list))
+    record_never count list budget =
+        record_every (Not n) (λ p l m. omega arith) (λ m. omega arith) (λ m. omega arith) count budget (trace hd LEVELS s base list) (trace_sound LEVELS list)
 
   pub walk_never : (s : List ℕ) (base count list budget : ℕ) → Every (Not n) (measured s base count list budget)
-  walk_never s base count list budget =
-      record_every (Not n) (λ p l m. omega arith) (λ m. omega arith) (λ m. omega arith) count budget
-      (walk_from s base list) (trace_all (Sound (Not n)) s base (λ p l m. omega arith) (sound_at s base) 8 list)
+  walk_never s base = record_never (ordinary s) (λ levels. list_never s) s base
 
 module _ (s : List ℕ) (base count list budget : ℕ) where
   pub measured_never : Every Other (measured s base count list budget)
@@ -63,32 +91,13 @@ module _ (s : List ℕ) (base count list budget : ℕ) where
   pub answer_never : (room : ℕ) → Every Other (answer_of s base count list budget room)
   answer_never room = every_room Other full_of room (measured s base count list budget) (λ v m. omega arith) measured_never
 
--- strictly: as the ordinary walk, or by what the strict profile adds. An answer of the code for each answer of the definition:
-abbrev refusal : Told → WalkRefusal
-refusal t = record { number = t.number; position = t.position; lists = t.lists; places = t.places; entries = t.entries; dropped = t.dropped }
+  module _ (minor : ℕ) where
+    pub strict_never : Every Other (strict_measured s base count list budget minor)
+    strict_never =
+        record_never OTHER_PLACE (omega arith) (strict s minor) (λ levels. strict_list_never OTHER_PLACE (omega arith) s minor (ltb levels LEVELS)) s base count list budget
 
-abbrev said : Paper Counts → WalkAnswer
-said (success c) = Read c
-said (refused t) = Refused (refusal t)
-
-said_is : (a : Paper Counts) → walk_paper (said a) ≡ a
-said_is (success c) = refl
-said_is (refused t) = refl
-
-added_other : (f : WalkRefusal) → Added f → f.number ≡ OTHER_PLACE → ⊥
-added_other f (inl a) m = let n = ap (λ (t : Told). t.number) a in omega arith
-added_other f (inr a) m = let n = ap (λ (t : Told). t.number) a in omega arith
-
-module _ (s : List ℕ) (base count list budget minor : ℕ) where
-  pub strict_never : Every Other (strict_measured s base count list budget minor)
-  strict_never t e m = go ((counts_profiles s base count list budget minor (said (refused t)) (said (measured s base count list budget)) (sym e) (said_is _)).refuses (refusal t) refl)
-    where
-      go : (said (measured s base count list budget) ≡ said (refused t)) ⊎ (Added (refusal t) × (t.lists < budget)) → ⊥
-      go (inl q) = measured_never s base count list budget t (sym (said_is (measured s base count list budget)) ∙ ap walk_paper q) m
-      go (inr a) = added_other (refusal t) a.0 m
-
-  pub strict_answer_never : (room : ℕ) → Every Other (strict_answer_of s base count list budget minor room)
-  strict_answer_never room = every_room Other full_of room (strict_measured s base count list budget minor) (λ v m. omega arith) strict_never
+    pub strict_answer_never : (room : ℕ) → Every Other (strict_answer_of s base count list budget minor room)
+    strict_answer_never room = every_room Other full_of room (strict_measured s base count list budget minor) (λ v m. omega arith) strict_never
 
 -- ---- the values
 

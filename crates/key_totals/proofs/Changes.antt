@@ -18,7 +18,6 @@ use Rattle.key_in_place.proofs.Behind.{here}
 use Rattle.key_totals.specs.declared.Place.{Place}
 use Rattle.key_totals.specs.declared.Totals.{Totals}
 use Rattle.key_totals.specs.declared.Changed.{Changed}
-use Rattle.key_totals.specs.declared.KeptAnswer.TheVariants.{Kept, Refused}
 use Rattle.key_totals.specs.declared.Wanted.TheVariants.{Key}
 use Rattle.key_totals.specs.Table.{PLACES, free, entry, counted_in, suits, laid, Outcome, outcome, refusing, keeping, full, place_of, free_of, number_in, walked, add_walked, add_here, add_of, replace_walked, replace_here, replace_of, remove_of, number_of, kept_paper}
 use Rattle.key_totals.specs.Rows.{one, entries_in, Entry, Once, Long, Summed, Call, add, replace, remove, named, called, Answers, place_for, content_of, lost, won, more, fewer, read_after, Walked, Gives, Called}
@@ -27,6 +26,7 @@ use Rattle.key_totals.proofs.Sums.{laid_long, laid_same, laid_other, laid-total,
 use Rattle.key_totals.proofs.Calls.{number_nowhere, number_there}
 use Rattle.key_totals.proofs.OtherPlace.{other_place}
 use Rattle.key_totals.proofs.Entries.{suits-entry, entry-suits, free-entry, same_position, place_entry, free_taken, nowhere}
+use Rattle.std.specs.Prelude.{Ok, Err}
 
 -- ---- a call is refused, or it changes one place
 
@@ -112,14 +112,14 @@ module _ (s : List ℕ) (t : Totals) where
         go (refusal u e) = inl (table_of ∙ ap (λ (o : Outcome). o.table) e)
         go (change n e h) = inr (n, (table_of ∙ ap (λ (o : Outcome). o.table) e, h))
 
-    pub unchanged : (f : WalkRefusal) → r.answer ≡ Refused f → r.table ≡ t
+    pub unchanged : (f : WalkRefusal) → r.answer ≡ Err f → r.table ≡ t
     unchanged f q = go (came c)
       where
         go : Came s t c (called s t c) → r.table ≡ t
         go (refusal u e) = table_of ∙ ap (λ (o : Outcome). o.table) e
         go (change n e h) = absurd (refused-success (sym (ap kept_paper q) ∙ answer_of ∙ ap (λ (o : Outcome). o.answer) e))
 
-    pub changing : (n : ℕ) → r.answer ≡ Kept n → Changing c r n
+    pub changing : (n : ℕ) → r.answer ≡ Ok n → Changing c r n
     changing n q = go (came c)
       where
         go : Came s t c (called s t c) → Changing c r n

@@ -1,19 +1,16 @@
 -- What is said of an answer tells the answers apart. Assumes nothing.
 use Rattle.std.proofs.Common.{◌≡◌, ℕ, List, sym, ap, ◌∙◌}
-use Rattle.words.proofs.Papers.{success-refused, refused-success, same-success, same-told}
+use Rattle.words.proofs.Papers.{paper_injective}
 use Rattle.sub_key_walk.proofs.Papers.{same-fault}
 use Rattle.key_totals.specs.declared.Totals.{Totals}
-use Rattle.key_totals.specs.declared.KeptAnswer.{KeptAnswer}
-use Rattle.key_totals.specs.declared.KeptAnswer.TheVariants.{Kept, Refused}
 use Rattle.key_totals.specs.declared.Changed.{Changed}
 use Rattle.key_totals.specs.Table.{Outcome, kept_paper, changed_paper}
 use Rattle.key_totals.specs.Rows.{Call, Answers}
+use Rattle.std.specs.declared.result.Result.{Result}
+use Rattle.sub_key_walk.specs.declared.WalkRefusal.{WalkRefusal}
 
-pub kept_injective : (a b : KeptAnswer) → kept_paper a ≡ kept_paper b → a ≡ b
-kept_injective (Kept m) (Kept n) e = ap Kept (same-success e)
-kept_injective (Kept m) (Refused g) e = absurd (success-refused e)
-kept_injective (Refused f) (Kept n) e = absurd (refused-success e)
-kept_injective (Refused f) (Refused g) e = ap Refused (same-fault (same-told e))
+pub kept_injective : (a b : Result ℕ WalkRefusal) → kept_paper a ≡ kept_paper b → a ≡ b
+kept_injective = paper_injective (λ v w e. e) same-fault
 
 pub changed_injective : (a b : Changed) → changed_paper a ≡ changed_paper b → a ≡ b
 changed_injective a b e =

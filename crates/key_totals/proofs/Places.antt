@@ -1,11 +1,11 @@
 -- The first place of which a test is true. Assumes nothing.
-use Rattle.std.proofs.Common.{◌≡◌, ℕ, zero, suc, ◌+◌, ◌<◌, ◌≤◌, Bool, true, false, cond, eqb, ◌⊎◌, List, [], ◌∷◌, map, length, get_or, drop, sym, refl, ap, ◌∙◌, inl, inr, add-one, arith, drop-cons, eqb-true}
+use Rattle.std.proofs.Common.{◌≡◌, ℕ, zero, suc, ◌+◌, ◌<◌, ◌≤◌, Bool, true, false, cond, eqb, ltb, ◌⊎◌, List, [], ◌∷◌, map, length, get_or, drop, sym, refl, ap, ◌∙◌, inl, inr, add-one, arith, drop-cons, eqb-true, lt-ltb, le-ltb, ltb-false, is_some, Option, Some, None}
 use native.Mathlib.Omega.{by_contra}
-use borrow.Author.Tests.{eqb-false}
+use borrow.Author.Tests.{eqb-false, ltb-true}
 use lib.ListN.{length-map}
 use lib.Seq.{drop-length}
 use Rattle.key_totals.specs.declared.Place.{Place}
-use Rattle.key_totals.specs.Table.{free, first_of}
+use Rattle.key_totals.specs.Table.{PLACES, free, first_of, found}
 
 -- the count of an array's elements, as what owning it tells has it
 pub long : {Y : Type 0} (g : Place → Y) (l : List Place) (n : ℕ) → length (map g l) ≡ n → length l ≡ n
@@ -38,10 +38,46 @@ module _ (f : Place → Bool) (es : List Place) where
     pub left_next : Left f es i → f (get_or es i d) ≡ false → Left f es (i + 1)
     left_next l e = rw add-one (omega (arith, further e))
 
--- ---- what the first place is
-
 pub true_false : {b : Bool} → b ≡ true → b ≡ false → ⊥
 true_false p q = absurd (let z : true ≡ false = sym p ∙ q in let y : ◌≡◌ {A = ℕ} 0 1 = ap (λ (b : Bool). cond b 0 1) z in omega arith)
+
+-- ---- a place by its number, where there is such a place
+
+module _ {i n : ℕ} (e : i ≡ n) where
+  pub is_found : i < PLACES → Some i ≡ found n
+  unfolding found
+  is_found h = rw (← e, lt-ltb _ _ h)
+
+  pub is_none_found : PLACES ≤ i → None ≡ found n
+  unfolding found
+  is_none_found h = rw (← e, le-ltb _ _ h)
+
+module _ (n : ℕ) where
+  pub found_some : {i : ℕ} → Some i ≡ found n → (i ≡ n) × (i < PLACES)
+  unfolding found
+  found_some {i} e = go (ltb n PLACES) refl e
+    where
+      go : (b : Bool) → ltb n PLACES ≡ b → Some i ≡ cond b (Some n) None → (i ≡ n) × (i < PLACES)
+      go true q f = let k : i ≡ n = cc in let l = ltb-true n PLACES q in (k, omega arith)
+      go false q f = absurd (let z : ◌≡◌ {A = ℕ} 0 1 = cc in omega arith)
+
+  pub found_none : None ≡ found n → PLACES ≤ n
+  unfolding found
+  found_none e = go (ltb n PLACES) refl e
+    where
+      go : (b : Bool) → ltb n PLACES ≡ b → None ≡ cond b (Some n) None → PLACES ≤ n
+      go true q f = absurd (let z : ◌≡◌ {A = ℕ} 0 1 = cc in omega arith)
+      go false q f = ltb-false n PLACES q
+
+  pub some_found : (o : Option ℕ) → o ≡ found n → is_some o ≡ true → n < PLACES
+  some_found (Some i) e h = let k = found_some e in let l = k.0 in omega (arith, k.1)
+  some_found None e h = absurd (true_false h refl)
+
+  pub not_found : (o : Option ℕ) → o ≡ found n → is_some o ≡ false → PLACES ≤ n
+  not_found (Some i) e h = absurd (true_false refl h)
+  not_found None e h = found_none e
+
+-- ---- what the first place is
 
 pub same_or_not : (a b : ℕ) → (a ≡ b) ⊎ (a ≡ b → ⊥)
 same_or_not a b = go (eqb a b) refl

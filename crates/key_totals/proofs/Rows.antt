@@ -3,8 +3,6 @@ use Rattle.std.proofs.Common.{◌≡◌, ℕ, zero, suc, ◌^◌, ◌<◌, Bool,
 use borrow.Author.Tests.{eqb-false}
 use Rattle.words.specs.Refusals.{NOT_FOUND}
 use Rattle.words.specs.Paper.{refused, by}
-use Rattle.key_totals.specs.declared.KeptAnswer.{KeptAnswer}
-use Rattle.key_totals.specs.declared.KeptAnswer.TheVariants.{Kept, Refused}
 use native.Mathlib.Omega.{by_contra}
 use lib.ListN.{length-replicate}
 use Rattle.words.proofs.Little.{Bytes}
@@ -18,6 +16,9 @@ use Rattle.key_totals.proofs.Sums.{summed_fits}
 use Rattle.key_totals.proofs.Entries.{place_entry, free-entry, same_position, same_number, finds}
 use Rattle.key_totals.proofs.Calls.{number_nowhere}
 use Rattle.key_totals.proofs.Changes.{Change, Changing, either, laid_there, stood, gives_at, calls}
+use Rattle.std.specs.Prelude.{Ok, Err}
+use Rattle.std.specs.declared.result.Result.{Result}
+use Rattle.sub_key_walk.specs.declared.WalkRefusal.{WalkRefusal}
 
 -- ---- the empty table
 
@@ -83,13 +84,13 @@ held_one : (s : List ℕ) → Bytes s → (t : Totals) (c : Call) (r : Changed) 
     → number_of r.table p ≡ held_by c p (number_of t p) (kept_paper r.answer)
 held_one s b t c r l o a p = by_answer r.answer refl
   where
-    by_key : (n : ℕ) → r.answer ≡ Kept n → (x : Bool) → eqb p (named c) ≡ x → number_of r.table p ≡ cond x (read_after c n) (number_of t p)
+    by_key : (n : ℕ) → r.answer ≡ Ok n → (x : Bool) → eqb p (named c) ≡ x → number_of r.table p ≡ cond x (read_after c n) (number_of t p)
     by_key n e true q = ap (number_of r.table) (eqb-true p (named c) q) ∙ (calls s b t c r l a).reads o n e
     by_key n e false q = (calls s b t c r l a).others p (eqb-false p (named c) q)
 
-    by_answer : (w : KeptAnswer) → r.answer ≡ w → number_of r.table p ≡ held_by c p (number_of t p) (kept_paper w)
-    by_answer (Kept n) e = by_key n e (eqb p (named c)) refl
-    by_answer (Refused f) e = ap (λ (u : Totals). number_of u p) ((calls s b t c r l a).refused f e)
+    by_answer : (w : Result ℕ WalkRefusal) → r.answer ≡ w → number_of r.table p ≡ held_by c p (number_of t p) (kept_paper w)
+    by_answer (Ok n) e = by_key n e (eqb p (named c)) refl
+    by_answer (Err f) e = ap (λ (u : Totals). number_of u p) ((calls s b t c r l a).refused f e)
 
 -- and behind a row
 held-row : (s : List ℕ) → Bytes s → (cs : List Call) (t u : Totals) → Summed t → Once t → After s t cs u → (p : ℕ)

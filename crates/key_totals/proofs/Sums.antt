@@ -8,9 +8,9 @@ use Rattle.key_totals.specs.Rows.{total, sum_of, one, Long, Summed}
 use Rattle.key_totals.proofs.Places.{same_or_not}
 
 -- what was there is taken off and what is there now is added, by the sums of 64 bits that the code has
-pub exchanged : {total before after rest sum was is : ℕ} → was ≡ before → is ≡ after → was < 2 ^ 64 → rest < 2 ^ 64
-    → (rest + was) % 2 ^ 64 ≡ total → sum ≡ (rest + is) % 2 ^ 64 → sum ≡ (total + (2 ^ 64 - before) + after) % 2 ^ 64
-exchanged a b c d e f = omega arith
+pub exchanged : (total : ℕ) {before after was is : ℕ} → was ≡ before → is ≡ after
+    → ((total + (2 ^ 64 - was)) % 2 ^ 64 + is) % 2 ^ 64 ≡ (total + (2 ^ 64 - before) + after) % 2 ^ 64
+exchanged total a b = omega arith
 
 -- ---- sums over places, of any number of a place
 

@@ -5,17 +5,16 @@ use Rattle.words.specs.Refusals.{NOT_FOUND, OTHER_PLACE}
 use Rattle.words.specs.Paper.{Paper, success, refused, by}
 use Rattle.sub_key_walk.specs.declared.Counts.{Counts}
 use Rattle.sub_key_walk.specs.declared.WalkRefusal.{WalkRefusal}
-use Rattle.sub_key_walk.specs.declared.WalkAnswer.{WalkAnswer}
-use Rattle.sub_key_walk.specs.declared.WalkAnswer.TheVariants.{Read}
 use Rattle.sub_key_walk.specs.Answers.{answer_of, full_of}
 use Rattle.cell_key_node.specs.declared.KeyNode.{KeyNode}
 use Rattle.key_in_place.specs.Place.{ReadsAs}
 use Rattle.key_in_place.specs.Answers.{WalkAnsweredOf}
 use Rattle.key_totals.specs.declared.Place.{Place}
 use Rattle.key_totals.specs.declared.Totals.{Totals}
-use Rattle.key_totals.specs.declared.KeptAnswer.TheVariants.{Kept, Refused}
 use Rattle.key_totals.specs.declared.Changed.{Changed}
 use Rattle.key_totals.specs.Table.{PLACES, free, entry, none, counted_in, laid, Outcome, place_of, free_of, number_in, add_of, replace_of, remove_of, number_of, kept_paper, changed_paper}
+use Rattle.std.specs.Prelude.{Ok, Err}
+use Rattle.std.specs.declared.result.Result.{Result}
 
 -- ---- "the sum over the entries", and their number
 
@@ -158,7 +157,7 @@ pub record Walked (s : List ℕ) (key : KeyNode) (budget n : ℕ) : Type 0 where
   pub tight : (room : ℕ) → room < n
       → answer_of s key.base key.number_of_sub_keys key.sub_keys_list_offset_relative budget room ≡ refused (full_of counts)
   -- and so does any answer that the promise of `sub_keys_of` allows
-  pub same : (old new : List ℕ) (w : WalkAnswer) → WalkAnsweredOf s key budget old w new → n ≤ length old → w ≡ Read counts
+  pub same : (old new : List ℕ) (w : Result Counts WalkRefusal) → WalkAnsweredOf s key budget old w new → n ≤ length old → w ≡ Ok counts
 
 -- a call that adds or replaces, and whose walk keeps n
 abbrev pub Own : List ℕ → Call → ℕ → Type 0
@@ -194,22 +193,22 @@ pub record Called (s : List ℕ) (t : Totals) (c : Call) (r : Changed) : Type 0 
   -- "21 OTHER PLACE, before all others": exactly where the key record does not stand in the image
   pub other_place : Elsewhere s c ↔ (kept_paper r.answer ≡ refused (by OTHER_PLACE 0))
   -- "A refused call changes nothing."
-  pub refused : (f : WalkRefusal) → r.answer ≡ Refused f → r.table ≡ t
+  pub refused : (f : WalkRefusal) → r.answer ≡ Err f → r.table ≡ t
   -- one that succeeds changes one place, and says where its number comes from
-  pub changes : (n : ℕ) → r.answer ≡ Kept n → (place_for t c < PLACES) × (r.table ≡ laid t (place_for t c) (content_of c n))
-  pub gives : (n : ℕ) → r.answer ≡ Kept n → Gives s t c n
+  pub changes : (n : ℕ) → r.answer ≡ Ok n → (place_for t c < PLACES) × (r.table ≡ laid t (place_for t c) (content_of c n))
+  pub gives : (n : ℕ) → r.answer ≡ Ok n → Gives s t c n
   -- the number of entries moves by one, none, minus one
-  pub moves : (n : ℕ) → r.answer ≡ Kept n → entries_in r.table + fewer c ≡ entries_in t + more c
+  pub moves : (n : ℕ) → r.answer ≡ Ok n → entries_in r.table + fewer c ≡ entries_in t + more c
   -- an entry that is not named stays in its place, and no other comes; reading it answers the same
   pub stays : (i p n : ℕ) → (p ≢ named c) → Entry t i p n ↔ Entry r.table i p n
   pub others : (p : ℕ) → (p ≢ named c) → number_of r.table p ≡ number_of t p
   -- "keep the total equal to the sum over the entries"
   pub keeps : Summed t → Summed r.table
   -- nothing is turned over: the sums are exact
-  pub exact : Summed t → (n : ℕ) → r.answer ≡ Kept n → r.table.total + lost t c ≡ t.total + won c n
+  pub exact : Summed t → (n : ℕ) → r.answer ≡ Ok n → r.table.total + lost t c ≡ t.total + won c n
   -- no position comes to stand twice, and the named one reads as the call left it
   pub once : Once t → Once r.table
-  pub reads : Once t → (n : ℕ) → r.answer ≡ Kept n → number_of r.table (named c) ≡ read_after c n
+  pub reads : Once t → (n : ℕ) → r.answer ≡ Ok n → number_of r.table (named c) ≡ read_after c n
 
 -- ---- any row of calls that starts with an empty table
 

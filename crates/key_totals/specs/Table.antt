@@ -2,18 +2,20 @@
 -- "The table of order 7 stores the position from it", the key record.
 use Rattle.std.specs.Prelude.{ℕ, suc, ◌+◌, ◌-◌, ◌%◌, ◌^◌, Bool, true, false, cond, not, ◌&&◌, List, [], ◌∷◌, get_or, replicate, ◌==◌, nat_le, nat_lt, slice_index_or, slice_set}
 use Rattle.words.specs.Refusals.{NOT_FOUND, ALREADY_IN, OTHER_PLACE}
-use Rattle.words.specs.Paper.{Told, Paper, success, refused, by, no_room_told}
+use Rattle.words.specs.Paper.{Told, Paper, success, refused, by, no_room_told, paper_of}
 use Rattle.sub_key_walk.specs.declared.Counts.{Counts}
 use Rattle.sub_key_walk.specs.Answers.{measured, walk_told}
 use Rattle.cell_key_node.specs.declared.KeyNode.{KeyNode}
 use Rattle.key_in_place.specs.Place.{is_in_place}
 use Rattle.key_totals.specs.declared.Place.{Place}
 use Rattle.key_totals.specs.declared.Totals.{Totals}
-use Rattle.key_totals.specs.declared.KeptAnswer.{KeptAnswer}
-use Rattle.key_totals.specs.declared.KeptAnswer.TheVariants.{Kept, Refused}
 use Rattle.key_totals.specs.declared.Changed.{Changed}
 use Rattle.key_totals.specs.declared.Wanted.{Wanted}
 use Rattle.key_totals.specs.declared.Wanted.TheVariants.{Free, Key}
+use Rattle.std.specs.declared.result.Result.{Result}
+use Rattle.std.specs.declared.option.Option.{Option}
+use Rattle.std.specs.declared.option.Option.TheVariants.{Some, None}
+use Rattle.sub_key_walk.specs.declared.WalkRefusal.{WalkRefusal}
 
 -- ---- places
 
@@ -45,6 +47,10 @@ suits (Key p) e = e.taken && e.position == p
 unfoldable pub first_of : (Place → Bool) → List Place → ℕ
 first_of f [] = 0
 first_of f (e ∷ es) = cond (f e) 0 (suc (first_of f es))
+
+-- a place by its number, where there is such a place
+unfoldable pub found : ℕ → Option ℕ
+found i = cond (nat_lt i PLACES) (Some i) None
 
 -- ---- the total
 
@@ -134,9 +140,8 @@ number_of t p = cond (nat_le PLACES (place_of t p)) (refused (by NOT_FOUND 0)) (
 
 -- ---- what the code's answers say
 
-abbrev pub kept_paper : KeptAnswer → Paper ℕ
-kept_paper (Kept n) = success n
-kept_paper (Refused f) = refused (walk_told f)
+abbrev pub kept_paper : Result ℕ WalkRefusal → Paper ℕ
+kept_paper = paper_of (λ n. n) walk_told
 
 abbrev pub changed_paper : Changed → Outcome
 changed_paper c = outcome c.table (kept_paper c.answer)

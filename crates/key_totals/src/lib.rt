@@ -2,14 +2,16 @@
 // these numbers stored beside them. It goes in by value and comes back with the answer; nothing is walked to read it.
 #![tactic(auto)]
 
-ghost use Rattle.std.specs.Prelude.{◌≡◌, ◌<◌};
+ghost use Rattle.std.specs.Prelude.{◌≡◌, ◌<◌, IfSome};
 ghost use Rattle.words.specs.Refusals.{OTHER_PLACE};
 ghost use Rattle.words.specs.Paper.{tell, by};
+ghost use Rattle.words.specs.Paper as paper;
 ghost use Rattle.sub_key_walk.specs.Answers.{walk_told, walk_paper};
-ghost use Rattle.key_totals.specs.Table.{PLACES, free, none, suits, first_of, counted_in, laid, refusing, keeping, walked, add_here, add_of, replace_here, replace_of, remove_of, number_of, kept_paper, changed_paper};
+ghost use Rattle.key_totals.specs.Table.{PLACES, free, none, suits, first_of, found, counted_in, laid, refusing, keeping, walked, add_here, add_of, replace_here, replace_of, remove_of, number_of, kept_paper, changed_paper};
 
 use cell_key_node::KeyNode;
-use sub_key_walk::{WalkAnswer, WalkRefusal};
+use sub_key_walk::{Counts, WalkRefusal};
+use words::Reason;
 
 // The places of a table.
 const PLACES: usize = 256;
@@ -17,7 +19,8 @@ const PLACES: usize = 256;
 // How many an entry more would need where all are taken.
 const NEEDED: u32 = 257;
 
-// A place: a key's position in the image and the number of its subkeys, or free.
+// A place: a key's position in the image and the number of its subkeys, or free. `taken` stays a flag: that a free place is all zero is
+// promised (docs/CONTRACTS.md, `empty` and `remove`), and `Option` would not say it.
 #[derive(Clone, Copy)]
 pub struct Place {
     pub position: usize,
@@ -32,21 +35,14 @@ pub struct Totals {
     pub total: u64,
 }
 
-// The number of a key's subkeys, or the refusal.
-#[derive(Clone, Copy)]
-pub enum KeptAnswer {
-    Kept(u32),
-    Refused(WalkRefusal),
-}
-
 // The table after a call, and what the call answers.
 #[derive(Clone, Copy)]
 pub struct Changed {
     pub table: Totals,
-    pub answer: KeptAnswer,
+    pub answer: Result<u32, WalkRefusal>,
 }
 
-// What is looked for in a table: a free place, or that of the key at a position.
+// What is looked for in a table: a free place, or that of the key at a position. (An `Option` would say `free` less plainly.)
 #[derive(Clone, Copy)]
 enum Wanted {
     Free,
@@ -85,19 +81,17 @@ fn is_wanted(place: Place, wanted: Wanted) -> bool
     }
 }
 
-// The first place that is wanted, and 256 where there is none.
-fn first(table: Totals, wanted: Wanted) -> usize
-    ensures { result ≡ first_of (suits wanted) table.places }
+// The first place that is wanted.
+fn first(table: Totals, wanted: Wanted) -> Option<usize>
+    ensures place { result ≡ found (first_of (suits wanted) table.places) }
+    ensures inside { IfSome result (λ i. i < PLACES) }
 {
-    let mut i: usize = 0;
-    while i < PLACES {
-        let place = table.places[i];
-        if is_wanted(place, wanted) {
-            return i;
+    for i in 0..PLACES {
+        if is_wanted(table.places[i], wanted) {
+            return Some(i);
         }
-        i += 1;
     }
-    i
+    None
 }
 
 // What a place has in the total.
@@ -113,21 +107,19 @@ fn lay(table: Totals, at: usize, place: Place) -> Totals
     ensures { result ≡ laid table at place }
 {
     let mut next = table;
-    let was = table.places[at];
-    let before = counted(was);
+    let before = counted(table.places[at]);
     let after = counted(place);
-    let rest = std::num::wrapping_sub_u64(table.total, before);
     next.places[at] = place;
-    next.total = std::num::wrapping_add_u64(rest, after);
+    next.total = table.total.wrapping_sub(before).wrapping_add(after);
     next
 }
 
 // A refusal by a number, at position 0: the places needed, where there are too few, and every other field 0.
-fn told(number: u32, places: u32) -> WalkRefusal
-    ensures { walk_told result ≡ tell number 0 0 places 0 0 }
+fn told(reason: Reason, places: u32) -> WalkRefusal
+    ensures { walk_told result ≡ tell (paper.number_of reason) 0 0 places 0 0 }
 {
     WalkRefusal {
-        number,
+        reason,
         position: 0,
         lists: 0,
         places,
@@ -142,7 +134,7 @@ fn refuse(table: Totals, refusal: WalkRefusal) -> Changed
 {
     Changed {
         table,
-        answer: KeptAnswer::Refused(refusal),
+        answer: Err(refusal),
     }
 }
 
@@ -150,7 +142,7 @@ fn refuse(table: Totals, refusal: WalkRefusal) -> Changed
 fn elsewhere(table: Totals) -> Changed
     ensures { changed_paper result ≡ refusing table (by OTHER_PLACE 0) }
 {
-    refuse(table, told(words::OTHER_PLACE, 0))
+    refuse(table, told(Reason::OtherPlace, 0))
 }
 
 // The number of the key at a position, in a place.
@@ -165,36 +157,36 @@ fn keep(table: Totals, at: usize, position: usize, kept: u32) -> Changed
     };
     Changed {
         table: lay(table, at, place),
-        answer: KeptAnswer::Kept(kept),
+        answer: Ok(kept),
     }
 }
 
 // What the walk from a key record that stands in the image counts.
-fn walk_counts(image: &[u8], key: KeyNode, budget: u32) -> WalkAnswer
+fn walk_counts(image: &[u8], key: KeyNode, budget: u32) -> Result<Counts, WalkRefusal>
     ensures { walk_paper result ≡ walked image.now key budget }
 {
-    let count = key.number_of_sub_keys;
-    let list = key.sub_keys_list_offset_relative;
-    sub_key_walk::sub_key_counts(image, key.base, count, list, budget)
+    sub_key_walk::sub_key_counts(
+        image,
+        key.base,
+        key.number_of_sub_keys,
+        key.sub_keys_list_offset_relative,
+        budget,
+    )
 }
 
 // A key that stands in the image and is not in the table yet, with the number that the walk from its record keeps.
 fn add_here(table: Totals, image: &[u8], key: KeyNode, budget: u32) -> Changed
     ensures { changed_paper result ≡ add_here table image.now key budget }
 {
-    let position = key.position;
-    if first(table, Wanted::Key(position)) < PLACES {
-        return refuse(table, told(words::ALREADY_IN, 0));
+    if first(table, Wanted::Key(key.position)).is_some() {
+        return refuse(table, told(Reason::AlreadyIn, 0));
     }
     match walk_counts(image, key, budget) {
-        WalkAnswer::Refused(fault) => refuse(table, fault),
-        WalkAnswer::Read(counts) => {
-            let at = first(table, Wanted::Free);
-            if PLACES <= at {
-                return refuse(table, told(words::NO_ROOM, NEEDED));
-            }
-            keep(table, at, position, counts.kept)
-        }
+        Err(fault) => refuse(table, fault),
+        Ok(counts) => match first(table, Wanted::Free) {
+            None => refuse(table, told(Reason::NoRoom, NEEDED)),
+            Some(at) => keep(table, at, key.position, counts.kept),
+        },
     }
 }
 
@@ -213,14 +205,12 @@ pub fn add(table: Totals, image: &[u8], key: KeyNode, budget: u32) -> Changed
 fn replace_here(table: Totals, image: &[u8], key: KeyNode, budget: u32) -> Changed
     ensures { changed_paper result ≡ replace_here table image.now key budget }
 {
-    let place = key.position;
-    let at = first(table, Wanted::Key(place));
-    if PLACES <= at {
-        return refuse(table, told(words::NOT_FOUND, 0));
-    }
+    let Some(at) = first(table, Wanted::Key(key.position)) else {
+        return refuse(table, told(Reason::NotFound, 0));
+    };
     match walk_counts(image, key, budget) {
-        WalkAnswer::Refused(fault) => refuse(table, fault),
-        WalkAnswer::Read(counts) => keep(table, at, place, counts.kept),
+        Err(fault) => refuse(table, fault),
+        Ok(counts) => keep(table, at, key.position, counts.kept),
     }
 }
 
@@ -239,14 +229,12 @@ pub fn replace(table: Totals, image: &[u8], key: KeyNode, budget: u32) -> Change
 pub fn remove(table: Totals, position: usize) -> Changed
     ensures { changed_paper result ≡ remove_of table position }
 {
-    let at = first(table, Wanted::Key(position));
-    if PLACES <= at {
-        return refuse(table, told(words::NOT_FOUND, 0));
-    }
-    let was = table.places[at];
-    Changed {
-        table: lay(table, at, nothing()),
-        answer: KeptAnswer::Kept(was.kept),
+    match first(table, Wanted::Key(position)) {
+        None => refuse(table, told(Reason::NotFound, 0)),
+        Some(at) => Changed {
+            table: lay(table, at, nothing()),
+            answer: Ok(table.places[at].kept),
+        },
     }
 }
 
@@ -258,13 +246,11 @@ pub fn total_of(table: Totals) -> u64
 }
 
 // The number of the key at a position.
-pub fn kept_of(table: Totals, position: usize) -> KeptAnswer
+pub fn kept_of(table: Totals, position: usize) -> Result<u32, WalkRefusal>
     ensures { kept_paper result ≡ number_of table position }
 {
-    let at = first(table, Wanted::Key(position));
-    if PLACES <= at {
-        return KeptAnswer::Refused(told(words::NOT_FOUND, 0));
+    match first(table, Wanted::Key(position)) {
+        None => Err(told(Reason::NotFound, 0)),
+        Some(at) => Ok(table.places[at].kept),
     }
-    let place = table.places[at];
-    KeptAnswer::Kept(place.kept)
 }

@@ -11,10 +11,7 @@ use lib.Dec.{leb, eqb}
 use lib.ListN.{length, get_or, drop, drop_of_length-le}
 use lib.Seq.{drop-cons}
 use borrow.Author.Tests.{le-leb, lt-leb, eq-eqb, ne_eqb, eqb-true}
-use Rattle.words.specs.Paper.{Told, Paper, success, refused, by, told, verdict_paper, on_success, then_by}
-use Rattle.words.specs.declared.Refusal.{Refusal}
-use Rattle.words.specs.declared.Verdict.{Verdict}
-use Rattle.words.specs.declared.Verdict.TheVariants.{Whole, Refused}
+use Rattle.words.specs.Paper.{Told, Paper, success, refused, by, on_success, then_by}
 use Rattle.words.specs.Refusals.{OUTSIDE, BAD_SIGN, BAD_NAME}
 use Rattle.words.proofs.Papers.{refused-success, same-success, by_success_of, on-success, on_success_of, on-refused, on_refused_of}
 use Rattle.sub_key_list.specs.Lists.{LH, LI, entry_size, Listed, leaf, index, list_at}
@@ -25,9 +22,7 @@ use Rattle.cell_key_node.proofs.Fill.{up_length, up_at}
 use Rattle.name_hash.specs.Characters.{upper_of, character_of}
 use Rattle.name_hash.specs.Hash.{name_hash_of}
 use Rattle.name_hash.specs.Hash as nameHash
-use Rattle.list_conversion.specs.declared.CountAnswer.{CountAnswer}
-use Rattle.list_conversion.specs.declared.CountAnswer.TheVariants.{Count, Refused as NoCount}
-use Rattle.list_conversion.specs.Entries.{only_kind, count_of, count_paper, offset_in, key_hash, entry, hashed, lh_entries, li_entries, judged_of, lh_count, or_zero, hash_of, lh_entry}
+use Rattle.list_conversion.specs.Entries.{only_kind, count_of, offset_in, key_hash, entry, hashed, lh_entries, li_entries, judged_of, lh_count, or_zero, hash_of, lh_entry}
 use Rattle.list_conversion.proofs.Lists.{leaf_read}
 
 -- ---- how many entries, by what the list is
@@ -245,44 +240,33 @@ li_of s p e =
 -- ---- what is written, by what the code has found
 
 module _ (s : List ℕ) (p : ℕ) (image : List ℕ) (base : ℕ) where
-  module _ {r : CountAnswer} (c : count_paper r ≡ count_of LI s p) where
-    pub judge_uncounted : {f : Refusal} → r ≡ NoCount f → refused (told f) ≡ lh_count s p image base
-    unfolding lh_entries then_by on_success
-    judge_uncounted e = rw (← c, e)
+  pub judge_uncounted : {t : Told} → refused t ≡ count_of LI s p → refused t ≡ lh_count s p image base
+  unfolding lh_entries then_by on_success
+  judge_uncounted e = rw (← e)
 
-    counted : {n : ℕ} → r ≡ Count n → lh_entries s p image base ≡ hashed image base (up_to (offset_in (drop p s) 4) n)
-    counted e = lh-counted s p image base (sym c ∙ ap count_paper e)
+  module _ {n : ℕ} (e : success n ≡ count_of LI s p) {l : List ℕ} (b : l ≡ drop p s) where
+    judged : {v : Paper (Unit {0})} → v ≡ judged_of image base (up_to (offset_in l 4) n) → judged_of image base (up_to (offset_in (drop p s) 4) n) ≡ v
+    judged j = sym (j ∙ ap (λ (k : List ℕ). judged_of image base (up_to (offset_in k 4) n)) b)
 
-    module _ {n : ℕ} (e : r ≡ Count n) {l : List ℕ} (b : l ≡ drop p s) {v : Verdict} (j : verdict_paper v ≡ judged_of image base (up_to (offset_in l 4) n)) where
-      verdict : {w : Verdict} → v ≡ w → judged_of image base (up_to (offset_in (drop p s) 4) n) ≡ verdict_paper w
-      verdict q = sym (sym (ap verdict_paper q) ∙ j ∙ ap (λ (k : List ℕ). judged_of image base (up_to (offset_in k 4) n)) b)
+    pub judge-refused : {t : Told} → refused t ≡ judged_of image base (up_to (offset_in l 4) n) → refused t ≡ lh_count s p image base
+    judge-refused q =
+        sym (on-refused _ (lh-counted s p image base (sym e) ∙ on_refused_of (λ (es : List ℕ). tt {0}) (hashed image base (up_to (offset_in (drop p s) 4) n)) (judged q)))
 
-      pub judge-refused : {f : Refusal} → v ≡ Refused f → refused (told f) ≡ lh_count s p image base
-      judge-refused q =
-          sym (on-refused _ (counted e ∙ on_refused_of (λ (es : List ℕ). tt {0}) (hashed image base (up_to (offset_in (drop p s) 4) n)) (verdict q)))
+    pub judge-whole : success tt ≡ judged_of image base (up_to (offset_in l 4) n) → success n ≡ lh_count s p image base
+    judge-whole q =
+        ap success (sym (up_length (lh_entry image base (drop p s)) n))
+        ∙ sym (on-success _ (lh-counted s p image base (sym e) ∙ hashed_up image base (offset_in (drop p s) 4) n (judged q)))
 
-      pub judge-whole : v ≡ Whole → success n ≡ lh_count s p image base
-      judge-whole q =
-          ap success (sym (up_length (lh_entry image base (drop p s)) n))
-          ∙ sym (on-success _ (counted e ∙ hashed_up image base (offset_in (drop p s) 4) n (verdict q)))
+-- ---- judged, its entries are known from their number
 
-  -- ---- judged, it is laid
-
-  module _ {r : CountAnswer} (c : count_paper r ≡ lh_count s p image base) where
-    pub lay_refused : {f : Refusal} → r ≡ NoCount f → lh_entries s p image base ≡ refused (told f)
-    lay_refused e = on_refused_of (λ (es : List ℕ). length es) (lh_entries s p image base) (sym c ∙ ap count_paper e)
-
-    pub lay_lh : {n : ℕ} → r ≡ Count n → lh_entries s p image base ≡ success (up_to (lh_entry image base (drop p s)) n)
-    lay_lh {n} e =
-        let w = on_success_of (λ (es : List ℕ). length es) (lh_entries s p image base) (sym c ∙ ap count_paper e) in
-        let o = lh_of s p image base w.1 in
-        let k : o.count ≡ n = sym (up_length (lh_entry image base (drop p s)) o.count) ∙ ap length (sym o.entries) ∙ w.2 in
-        w.1 ∙ ap success (o.entries ∙ ap (up_to (lh_entry image base (drop p s))) k)
-
-module _ (s : List ℕ) (p : ℕ) {r : CountAnswer} (c : count_paper r ≡ count_of LH s p) where
-  pub lay_uncounted : {f : Refusal} → r ≡ NoCount f → li_entries s p ≡ refused (told f)
-  unfolding li_entries on_success
-  lay_uncounted e = rw (← c, e)
-
-  pub lay_li : {n : ℕ} → r ≡ Count n → li_entries s p ≡ success (up_to (offset_in (drop p s) 8) n)
-  lay_li e = li-counted s p (sym c ∙ ap count_paper e)
+pub lh_laid : (s : List ℕ) (p : ℕ) (image : List ℕ) (base : ℕ) → on_success (up_to (lh_entry image base (drop p s))) (lh_count s p image base) ≡ lh_entries s p image base
+unfolding on_success
+lh_laid s p image base = go (lh_entries s p image base) refl
+  where
+    go : (a : Paper (List ℕ)) → lh_entries s p image base ≡ a
+        → on_success (up_to (lh_entry image base (drop p s))) (on_success (λ (es : List ℕ). length es) a) ≡ a
+    go (success es) e =
+        let o = lh_of s p image base e in
+        let k : length es ≡ o.count = ap length o.entries ∙ up_length (lh_entry image base (drop p s)) o.count in
+        ap success (ap (up_to (lh_entry image base (drop p s))) k ∙ sym o.entries)
+    go (refused t) e = refl

@@ -14,18 +14,19 @@ use Rattle.list_conversion.specs.Cells.{cell_size}
 use Rattle.list_conversion.specs.Entries.{offset_in, key_hash, lh_entries, li_entries, lh_entry}
 use Rattle.list_conversion.specs.Answers.{conversion_paper, size_of, Converted}
 use Rattle.list_conversion.specs.Written.{WasWritten, ExactlyLh, ExactlyLi}
-use Rattle.list_conversion.specs.declared.ConversionAnswer.{ConversionAnswer}
-use Rattle.list_conversion.specs.declared.ConversionAnswer.TheVariants.{Written, Refused}
 use Rattle.list_conversion.proofs.Entries.{count_known, hashed_up, judged_all, lh-counted, lh_of, li-counted, li_of}
 use Rattle.list_conversion.proofs.Written.{found, offset_there}
+use Rattle.std.specs.Prelude.{Ok, Err}
+use Rattle.std.specs.declared.result.Result.{Result}
+use Rattle.words.specs.declared.RoomRefusal.{RoomRefusal}
 
 -- ---- by the entries, which are f 0, f 1, .. before f n
 
-module _ (kind : ℕ) (a : Paper (List ℕ)) (old : List ℕ) (r : ConversionAnswer) (new : List ℕ) (x : Converted kind a old r new) where
+module _ (kind : ℕ) (a : Paper (List ℕ)) (old : List ℕ) (r : (Result ℕ RoomRefusal)) (new : List ℕ) (x : Converted kind a old r new) where
   wrote : WasWritten r → (es : List ℕ) × (a ≡ success es) × (cell_size (entry_size kind) (length es) ≤ length old)
   unfolding size_of
   wrote w =
-      let y : Converted kind a old (Written w.0) new = subst (λ (q : ConversionAnswer). Converted kind a old q new) w.1 x in
+      let y : Converted kind a old (Ok w.0) new = subst (λ (q : (Result ℕ RoomRefusal)). Converted kind a old q new) w.1 x in
       let e = found kind a old new w.0 y in
       let k = room_success needing (length old) (size_of kind a) w.0 (sym y.answer) in
       let c : cell_size (entry_size kind) (length e.0) ≡ w.0 = same-success (sym (on-success _ e.1) ∙ k.0) in
@@ -37,9 +38,9 @@ module _ (kind : ℕ) (a : Paper (List ℕ)) (old : List ℕ) (r : ConversionAns
       let c : size_of kind a ≡ success (cell_size (entry_size kind) n) = on-success _ e ∙ ap (λ (u : ℕ). success (cell_size (entry_size kind) u)) (up_length f n) in
       go r (x.answer ∙ ap (in_room needing (length old)) c ∙ room_fits needing (length old) (cell_size (entry_size kind) n) h)
     where
-      go : (q : ConversionAnswer) {v : ℕ} → conversion_paper q ≡ success v → WasWritten q
-      go (Written m) e = (m, refl)
-      go (Refused g) e = absurd (refused-success e)
+      go : (q : (Result ℕ RoomRefusal)) {v : ℕ} → conversion_paper q ≡ success v → WasWritten q
+      go (Ok m) e = (m, refl)
+      go (Err g) e = absurd (refused-success e)
 
 pub exactly_lh : ExactlyLh
 unfolding entry_size

@@ -1,5 +1,5 @@
 -- Entries in a row, over the bytes of an entry, and the loop that writes them. Assumes nothing.
-use mathlib.Core.Path.{◌≡◌, refl, sym, ap, ◌∙◌}
+use mathlib.Core.Path.{◌≡◌, refl, sym, ap, subst, ◌∙◌}
 use mathlib.Core.Bool.{Bool}
 use mathlib.Core.List.{List, [], ◌∷◌, ◌++◌, append_assoc, append-nil}
 use Prim.Native.Nat.{ℕ, suc, ◌+◌, ◌-◌, ◌*◌, ◌≤◌, ◌<◌}
@@ -15,10 +15,11 @@ use Rattle.list_conversion.specs.Cells.{list_size, header, row_bytes}
 
 -- a header
 pub header-put :
-    (old : List ℕ) (cell kind n : ℕ) → 8 ≤ length old
-    → {q r s : Bool} {one two new : List ℕ} → PutAt 4 (4294967296 - cell) 0 old q one → PutAt 2 kind 4 one r two → PutAt 2 n 6 two s new
+    (old : List ℕ) (cell kind n : ℕ) → 8 ≤ length old → {word : ℕ} → word ≡ 4294967296 - cell
+    → {q r s : Bool} {one two new : List ℕ} → PutAt 4 word 0 old q one → PutAt 2 kind 4 one r two → PutAt 2 n 6 two s new
     → new ≡ with_bytes old 0 (header cell kind n)
-header-put old cell kind n h x y z =
+header-put old cell kind n h w {q = q} {one = one} put y z =
+    let x : PutAt 4 (4294967296 - cell) 0 old q one = subst (λ (k : ℕ). PutAt 4 k 0 old q one) w put in
     let a : List ℕ = bytes_of 4 (4294967296 - cell) in
     let b : List ℕ = bytes_of 2 kind in
     let k : length a ≡ 4 = bytes_length 4 (4294967296 - cell) in
@@ -59,15 +60,16 @@ module _ (size : ℕ) where
       wide : length (row_bytes size (up_to f i)) ≡ size * i
       wide = row-length (up_to f i) ∙ ap (λ (k : ℕ). size * k) (up_length f i)
 
-      pub filling_step : i < n → {e : ℕ} → e ≡ f i → {r : Bool} {new : List ℕ} → PutAt size e (8 + size * i) out r new → Filling f n old new (i + 1)
+      pub filling_step : i < n → {z e : ℕ} → z ≡ size → e ≡ f i → {r : Bool} {new : List ℕ} → PutAt z e (8 + z * i) out r new → Filling f n old new (i + 1)
       unfolding up_to
-      filling_step k {e} q {r} {new} p =
+      filling_step k {z} {e} w q {r} {new} put =
+          let p : PutAt size e (8 + size * i) out r new = subst (λ (u : ℕ). PutAt u e (8 + u * i) out r new) w put in
           let row : List ℕ = row_bytes size (up_to f i) in
           let next : size * suc i ≤ size * n = mul-le-mul {n₁ = size} {m₁ = suc i} {n₂ = size} {m₂ = n} (omega arith) (omega arith) in
           let m : size * suc i ≡ size * i + size = mul-suc size i in
           let h : list_size size n ≤ length old = x.room in
           let b : length (bytes_of size e) ≡ size = bytes_length size e in
-          let w : length row ≡ size * i = wide in
+          let long : length row ≡ size * i = wide in
           let so : new ≡ with_bytes old 8 (row ++ bytes_of size e) = put-after old 8 row p x.so (omega arith) (omega arith) in
           let grown : row_bytes size (up_to f (i + 1)) ≡ row ++ bytes_of size e =
           ap (λ (u : ℕ). row_bytes size (up_to f u)) (add-one i) ∙ row_more (up_to f i) (f i) ∙ ap (λ (u : ℕ). row ++ bytes_of size u) (sym q) in
@@ -77,9 +79,3 @@ module _ (size : ℕ) where
             long = ap length so ∙ with_length old 8 (row ++ bytes_of size e) (omega (arith, length-append row (bytes_of size e)));
             so = so ∙ ap (with_bytes old 8) (sym grown);
           }
-
-      pub filling_done : n ≤ i → out ≡ with_bytes old 8 (row_bytes size (up_to f n))
-      filling_done k =
-          let l = x.within in
-          let e : i ≡ n = omega arith in
-          x.so ∙ ap (λ (u : ℕ). with_bytes old 8 (row_bytes size (up_to f u))) e

@@ -27,3 +27,8 @@ module _ (size n : ℕ) where
 
   pub size_least : (m : ℕ) → m % 8 ≡ 0 → list_size size n ≤ m → cell_size size n ≤ m
   size_least m e h = omega (arith, size_spare, div-add-mod m 8, div-add-mod (cell_size size n) 8, size_multiple)
+
+-- a multiple of 8 that holds the list, with fewer than 8 bytes to spare, is it
+pub size_is : (size n : ℕ) {bytes m : ℕ} → bytes ≡ list_size size n → bytes ≤ m → m < bytes + 8 → m % 8 ≡ 0 → m ≡ cell_size size n
+size_is size n {bytes} {m} e h k z =
+    omega (arith, size_least size n m z (omega arith), size_holds size n, size_spare size n, size_multiple size n, div-add-mod m 8, div-add-mod (cell_size size n) 8)

@@ -27,9 +27,9 @@ use Rattle.list_conversion.specs.Cells.{cell_size}
 use Rattle.list_conversion.specs.Entries.{only_kind, count_of, offset_in, key_hash, entry, hashed, lh_entries, li_entries}
 use Rattle.list_conversion.specs.Answers.{size_of, Converted}
 use Rattle.list_conversion.specs.Written.{offset_at, Lent, Became, SameEntries, FromLi, FromLh, WasRefused, RefusedLh, RefusedLi}
-use Rattle.list_conversion.specs.declared.ConversionAnswer.TheVariants.{Refused}
 use Rattle.list_conversion.proofs.Lists.{leaf_read}
 use Rattle.list_conversion.proofs.Written.{wrote_lh, wrote_li}
+use Rattle.std.specs.Prelude.{Err}
 
 -- a word of the cell that is lent is the one that was written
 lent_word : (n : ℕ) (new t : List ℕ) (q : ℕ) → Lent n new t q → (m j : ℕ) → j + m ≤ n → little m t (q + j) ≡ little m new j
@@ -140,7 +140,7 @@ li-plain : (s : List ℕ) (p : ℕ) → Plainly (li_entries s p)
 unfolding li_entries
 li-plain s p = plainly_on (λ n. up_to (offset_in (drop p s) 8) n) (count_of LH s p) (count-plain LH s p)
 
-refusal : (kind : ℕ) (a : Paper (List ℕ)) → Plainly a → (old new : List ℕ) (f : RoomRefusal) → Converted kind a old (Refused f) new
+refusal : (kind : ℕ) (a : Paper (List ℕ)) → Plainly a → (old new : List ℕ) (f : RoomRefusal) → Converted kind a old (Err f) new
     → WasRefused a (entry_size kind) old new f
 unfolding size_of
 refusal kind a h old new f x = record {

@@ -24,15 +24,14 @@ use Rattle.words.proofs.Little.{little_lt, little-drop}
 use Rattle.writing.proofs.Writing.{bytes_back}
 use Rattle.writing.specs.Writing.{bytes_of}
 use Rattle.list_conversion.specs.Cells.{list_size, cell_size, cell_with, cell_of}
-use Rattle.list_conversion.specs.Entries.{offset_in, key_hash, lh_entries, li_entries, hash_of, lh_entry}
+use Rattle.list_conversion.specs.Entries.{offset_in, key_hash, lh_entries, li_entries, hash_of, lh_entry, lh_size, li_size}
 use Rattle.list_conversion.specs.Answers.{size_of, cell_for, Converted}
 use Rattle.list_conversion.specs.Written.{offset_at, hash_at, CellReads, Cells, Became, WroteLh, WroteLi}
-use Rattle.list_conversion.specs.declared.ConversionAnswer.TheVariants.{Written}
 use Rattle.list_conversion.proofs.Sizes.{list_small, size_holds, size_spare, size_multiple, size_least}
 use Rattle.list_conversion.proofs.Lists.{leaf_read}
 use Rattle.list_conversion.proofs.Entries.{key_hash_small, lh_of, li_of}
-use Rattle.list_conversion.proofs.Answers.{lh_size, li_size}
 use Rattle.list_conversion.proofs.Reading.{entry_words, word_there, kind_there, count_there, entry_there, zero_there, buffer_length}
+use Rattle.std.specs.Prelude.{Ok}
 
 -- ---- the size word of a cell that is written
 
@@ -115,7 +114,7 @@ module _ (kind size : ℕ) (z : size ≡ entry_size kind) where
             behind = drop_at (cell_with size kind es) (drop cell old) cell whole;
           }
 
-      pub stands : (a : Paper (List ℕ)) → a ≡ success es → (n : ℕ) (new : List ℕ) → Converted kind a old (Written n) new → Stands es old new n
+      pub stands : (a : Paper (List ℕ)) → a ≡ success es → (n : ℕ) (new : List ℕ) → Converted kind a old (Ok n) new → Stands es old new n
       unfolding size_of cell_of
       stands a e n new x =
           let r = room_success needing (length old) (size_of kind a) n (sym x.answer) in
@@ -164,7 +163,7 @@ cells kind (inr (inr e)) es tail m = subst (λ (k : ℕ). CellReads k es tail) (
 -- ---- of an answer that wrote a cell
 
 -- its entries were found
-pub found : (kind : ℕ) (a : Paper (List ℕ)) (old new : List ℕ) (n : ℕ) → Converted kind a old (Written n) new → (es : List ℕ) × (a ≡ success es)
+pub found : (kind : ℕ) (a : Paper (List ℕ)) (old new : List ℕ) (n : ℕ) → Converted kind a old (Ok n) new → (es : List ℕ) × (a ≡ success es)
 unfolding size_of
 found kind a old new n x =
     let r = room_success needing (length old) (size_of kind a) n (sym x.answer) in

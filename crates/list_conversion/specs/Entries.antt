@@ -1,16 +1,16 @@
 -- The entries that a conversion reads and writes, from document 02, order 10.
 use Prim.{Unit, tt}
-use Rattle.std.specs.Prelude.{ℕ, ◌+◌, ◌*◌, List, [], ◌∷◌, cond, leb, eqb, length, drop}
+use Rattle.std.specs.Prelude.{ℕ, ◌+◌, ◌*◌, ◌≡◌, refl, List, [], ◌∷◌, cond, leb, eqb, length, drop}
 use Rattle.words.specs.Words.{word32}
 use Rattle.words.specs.Refusals.{OUTSIDE, BAD_SIGN}
-use Rattle.words.specs.Paper.{Paper, success, refused, by, told, on_success, then_by}
-use Rattle.sub_key_list.specs.Lists.{LH, LI, Listed, leaf, index, list_at}
+use Rattle.words.specs.Paper.{Paper, success, refused, by, told, paper_of, on_success, then_by}
+use Rattle.sub_key_list.specs.Lists.{LH, LI, entry_size, Listed, leaf, index, list_at}
 use Rattle.cell_key_node.specs.Key.{key_at, key_name}
 use Rattle.cell_key_node.specs.ValueList.{up_to}
 use Rattle.cell_key_node.specs.declared.KeyNode.{KeyNode}
 use Rattle.name_hash.specs.Hash.{name_hash_of}
-use Rattle.list_conversion.specs.declared.CountAnswer.{CountAnswer}
-use Rattle.list_conversion.specs.declared.CountAnswer.TheVariants.{Count, Refused}
+use Rattle.std.specs.declared.result.Result.{Result}
+use Rattle.words.specs.declared.Refusal.{Refusal}
 
 -- ---- the list
 
@@ -23,9 +23,8 @@ only_kind kind p (refused t) = refused t
 unfoldable pub count_of : ℕ → List ℕ → ℕ → Paper ℕ
 count_of kind s p = only_kind kind p (list_at s p)
 
-abbrev pub count_paper : CountAnswer → Paper ℕ
-count_paper (Count n) = success n
-count_paper (Refused f) = refused (told f)
+abbrev pub count_paper : Result ℕ Refusal → Paper ℕ
+count_paper = paper_of (λ n. n) told
 
 -- "entries at 8, of 8 bytes (`lf`, `lh`: offset, hint) or 4 (`li`, `ri`)": the offset of entry i, in the bytes from the list's size word on
 abbrev pub offset_in : List ℕ → ℕ → ℕ → ℕ
@@ -81,3 +80,12 @@ hash_of image base offset = or_zero (key_hash image (offset + base))
 -- entry i of the `lh` list that an `li` list becomes
 abbrev pub lh_entry : List ℕ → ℕ → List ℕ → ℕ → ℕ
 lh_entry image base list i = entry (offset_in list 4 i) (hash_of image base (offset_in list 4 i))
+
+-- the bytes that an entry of each kind takes
+pub lh_size : 8 ≡ entry_size LH
+unfolding entry_size
+lh_size = refl
+
+pub li_size : 4 ≡ entry_size LI
+unfolding entry_size
+li_size = refl

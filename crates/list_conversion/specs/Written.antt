@@ -11,8 +11,9 @@ use Rattle.sub_key_list.specs.Strict.{permitted, strict_at}
 use Rattle.list_conversion.specs.Cells.{list_size, cell_size, cell_of}
 use Rattle.list_conversion.specs.Entries.{key_hash, lh_entries, li_entries}
 use Rattle.list_conversion.specs.Answers.{LhAnswered, LiAnswered}
-use Rattle.list_conversion.specs.declared.ConversionAnswer.{ConversionAnswer}
-use Rattle.list_conversion.specs.declared.ConversionAnswer.TheVariants.{Written, Refused}
+use Rattle.std.specs.Prelude.{Ok, Err}
+use Rattle.std.specs.declared.result.Result.{Result}
+use Rattle.words.specs.Paper.{number_of}
 
 -- where entry i of a list at a position stands, whose entries have so many bytes; its offset, and the hash of an entry of 8 bytes
 abbrev pub entry_at : ℕ → ℕ → ℕ → ℕ
@@ -79,22 +80,22 @@ Hashed image base count s p new = (i : ℕ) → i < count → key_hash image (of
 abbrev pub WroteLh : Type 0
 WroteLh =
     (s : List ℕ) → Bytes s → (p : ℕ) (image : List ℕ) (base : ℕ) (old new : List ℕ) (n : ℕ)
-    → LhAnswered s p image base old (Written n) new
+    → LhAnswered s p image base old (Ok n) new
     → (count : ℕ) × Became LI 4 LH 8 s p old new n count × Hashed image base count s p new
 
 abbrev pub WroteLi : Type 0
 WroteLi =
     (s : List ℕ) → Bytes s → (p : ℕ) (old new : List ℕ) (n : ℕ)
-    → LiAnswered s p old (Written n) new → (count : ℕ) × Became LH 8 LI 4 s p old new n count
+    → LiAnswered s p old (Ok n) new → (count : ℕ) × Became LH 8 LI 4 s p old new n count
 
 -- when a cell is written: exactly where the list is read, is of the kind that is taken, every entry of an `li` list names a key whose name
 -- has a hash, and the cell fits
-abbrev pub WasWritten : ConversionAnswer → Type 0
-WasWritten r = (n : ℕ) × (r ≡ Written n)
+abbrev pub WasWritten : (Result ℕ RoomRefusal) → Type 0
+WasWritten r = (n : ℕ) × (r ≡ Ok n)
 
 abbrev pub ExactlyLh : Type 0
 ExactlyLh =
-    (s : List ℕ) (p : ℕ) (image : List ℕ) (base : ℕ) (old : List ℕ) (r : ConversionAnswer) (new : List ℕ) → LhAnswered s p image base old r new
+    (s : List ℕ) (p : ℕ) (image : List ℕ) (base : ℕ) (old : List ℕ) (r : (Result ℕ RoomRefusal)) (new : List ℕ) → LhAnswered s p image base old r new
     → WasWritten r
     ↔ ((count : ℕ)
     × (list_at s p ≡ success (leaf LI 4 count))
@@ -103,24 +104,24 @@ ExactlyLh =
 
 abbrev pub ExactlyLi : Type 0
 ExactlyLi =
-    (s : List ℕ) (p : ℕ) (old : List ℕ) (r : ConversionAnswer) (new : List ℕ) → LiAnswered s p old r new
+    (s : List ℕ) (p : ℕ) (old : List ℕ) (r : (Result ℕ RoomRefusal)) (new : List ℕ) → LiAnswered s p old r new
     → WasWritten r ↔ ((count : ℕ) × (list_at s p ≡ success (leaf LH 8 count)) × (cell_size 4 count ≤ length old))
 
 -- a refusal changes no byte; and 9 is given only where all else succeeds, with the bytes of the cell, which are more than there are
 pub record WasRefused (es : Paper (List ℕ)) (size : ℕ) (old new : List ℕ) (f : RoomRefusal) : Type 0 where
   pub untouched : new ≡ old
-  pub no_room : f.number ≡ NO_ROOM
+  pub no_room : (number_of f.reason) ≡ NO_ROOM
       → (f.position ≡ 0) × (length old < f.places) × ((l : List ℕ) × (es ≡ success l) × (f.places ≡ cell_size size (length l)))
 
 abbrev pub RefusedLh : Type 0
 RefusedLh =
     (s : List ℕ) (p : ℕ) (image : List ℕ) (base : ℕ) (old new : List ℕ) (f : RoomRefusal)
-    → LhAnswered s p image base old (Refused f) new → WasRefused (lh_entries s p image base) (entry_size LH) old new f
+    → LhAnswered s p image base old (Err f) new → WasRefused (lh_entries s p image base) (entry_size LH) old new f
 
 abbrev pub RefusedLi : Type 0
 RefusedLi =
     (s : List ℕ) (p : ℕ) (old new : List ℕ) (f : RoomRefusal)
-    → LiAnswered s p old (Refused f) new → WasRefused (li_entries s p) (entry_size LI) old new f
+    → LiAnswered s p old (Err f) new → WasRefused (li_entries s p) (entry_size LI) old new f
 
 -- ---- the way there and back
 
@@ -137,16 +138,16 @@ pub record SameEntries (kind size : ℕ) (s : List ℕ) (p : ℕ) (new : List �
 -- "Where both steps succeed, the second lent the first's cell beside the same image, from `li` and back gives the same entries"
 abbrev pub FromLi : Type 0
 FromLi =
-    (s : List ℕ) → Bytes s → (p : ℕ) (image : List ℕ) (base : ℕ) (old new : List ℕ) (n : ℕ) → LhAnswered s p image base old (Written n) new
-    → (t : List ℕ) → Bytes t → (q : ℕ) → Lent n new t q → (old' new' : List ℕ) (m : ℕ) → LiAnswered t q old' (Written m) new'
+    (s : List ℕ) → Bytes s → (p : ℕ) (image : List ℕ) (base : ℕ) (old new : List ℕ) (n : ℕ) → LhAnswered s p image base old (Ok n) new
+    → (t : List ℕ) → Bytes t → (q : ℕ) → Lent n new t q → (old' new' : List ℕ) (m : ℕ) → LiAnswered t q old' (Ok m) new'
     → (count : ℕ) × SameEntries LI 4 s p new' count
 
 -- "from `lh` and back too, with hashes equal if the old ones were right": each one that was the hash of its key's name
 abbrev pub FromLh : Type 0
 FromLh =
-    (s : List ℕ) → Bytes s → (p : ℕ) (old new : List ℕ) (n : ℕ) → LiAnswered s p old (Written n) new
+    (s : List ℕ) → Bytes s → (p : ℕ) (old new : List ℕ) (n : ℕ) → LiAnswered s p old (Ok n) new
     → (t : List ℕ) → Bytes t → (q : ℕ) → Lent n new t q → (image : List ℕ) (base : ℕ) (old' new' : List ℕ) (m : ℕ)
-    → LhAnswered t q image base old' (Written m) new'
+    → LhAnswered t q image base old' (Ok m) new'
     → (count : ℕ) × SameEntries LH 8 s p new' count
     × ((i : ℕ) → i < count → key_hash image (offset_at s p 8 i + base) ≡ success (hash_at s p i) → hash_at new' 0 i ≡ hash_at s p i)
 
@@ -154,14 +155,14 @@ FromLh =
 -- hash besides
 abbrev pub BackToLi : Type 0
 BackToLi =
-    (s : List ℕ) → Bytes s → (p : ℕ) (image : List ℕ) (base : ℕ) (old new : List ℕ) (n : ℕ) → LhAnswered s p image base old (Written n) new
-    → (t : List ℕ) (q : ℕ) → Lent n new t q → (old' : List ℕ) (r : ConversionAnswer) (new' : List ℕ) → LiAnswered t q old' r new'
+    (s : List ℕ) → Bytes s → (p : ℕ) (image : List ℕ) (base : ℕ) (old new : List ℕ) (n : ℕ) → LhAnswered s p image base old (Ok n) new
+    → (t : List ℕ) (q : ℕ) → Lent n new t q → (old' : List ℕ) (r : (Result ℕ RoomRefusal)) (new' : List ℕ) → LiAnswered t q old' r new'
     → (count : ℕ) × (list_at s p ≡ success (leaf LI 4 count)) × (WasWritten r ↔ (cell_size 4 count ≤ length old'))
 
 abbrev pub BackToLh : Type 0
 BackToLh =
-    (s : List ℕ) → Bytes s → (p : ℕ) (old new : List ℕ) (n : ℕ) → LiAnswered s p old (Written n) new
-    → (t : List ℕ) (q : ℕ) → Lent n new t q → (image : List ℕ) (base : ℕ) (old' : List ℕ) (r : ConversionAnswer) (new' : List ℕ)
+    (s : List ℕ) → Bytes s → (p : ℕ) (old new : List ℕ) (n : ℕ) → LiAnswered s p old (Ok n) new
+    → (t : List ℕ) (q : ℕ) → Lent n new t q → (image : List ℕ) (base : ℕ) (old' : List ℕ) (r : (Result ℕ RoomRefusal)) (new' : List ℕ)
     → LhAnswered t q image base old' r new'
     → (count : ℕ)
     × (list_at s p ≡ success (leaf LH 8 count))

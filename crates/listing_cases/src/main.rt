@@ -1,104 +1,83 @@
-// The listing of the hives in data/, one after another, each under its label: the modules are the listing program's own.
+// The listing of the hives in data/, one after another, each under its label.
 #![tactic(auto)]
 
-mod console;
-mod listing;
-mod totals;
-
+use console::Stdout;
+use hive_console::input;
+use std::fmt::Write;
 use std::fs::File;
 use std::rt::Files;
 
 fn case<R: Files>(rt: &R, label: &str) {
-    io::write_all(1, label.as_bytes());
-    io::write_all(1, b"\n");
+    let _ = writeln!(Stdout, "{label}");
     match File::open(rt, label) {
-        Ok(mut input) => listing::list_input(&mut input),
+        Ok(mut file) => input::list_input(&mut file, root_listing::list),
         Err(_) => {
-            io::write_all(1, b"no such hive\n");
+            let _ = writeln!(Stdout, "no such hive");
         }
     }
 }
 
-fn first<R: Files>(rt: &R) {
-    case(rt, "empty");
-    case(rt, "cut_to_4095");
-    case(rt, "cut_to_4096");
-    case(rt, "cut_to_8191");
-    case(rt, "example");
-    case(rt, "one_byte_more");
-    case(rt, "not_regf");
-    case(rt, "wrong_checksum");
-    case(rt, "bins_size_0");
-    case(rt, "bins_size_4097");
-}
-
-fn second<R: Files>(rt: &R) {
-    case(rt, "bins_size_4095");
-    case(rt, "not_hbin");
-    case(rt, "bin_elsewhere");
-    case(rt, "cell_0");
-    case(rt, "cell_past_the_bin");
-    case(rt, "cell_of_4");
-    case(rt, "root_negative");
-    case(rt, "root_least");
-    case(rt, "root_at_the_end");
-    case(rt, "root_past_the_end");
-}
-
-fn third<R: Files>(rt: &R) {
-    case(rt, "root_79_left");
-    case(rt, "root_80_left");
-    case(rt, "root_no_nk");
-    case(rt, "root_is_the_list");
-    case(rt, "root_size_79");
-    case(rt, "root_free");
-    case(rt, "root_name_to_the_end");
-    case(rt, "root_name_past_the_end");
-    case(rt, "count_most");
-    case(rt, "count_above");
-}
-
-fn fourth<R: Files>(rt: &R) {
-    case(rt, "count_0");
-    case(rt, "count_0_list_gone");
-    case(rt, "list_at_the_end");
-    case(rt, "list_past_the_end");
-    case(rt, "list_7_left");
-    case(rt, "list_8_left");
-    case(rt, "list_unknown");
-    case(rt, "list_count_0");
-    case(rt, "entries_to_the_end");
-    case(rt, "entries_past_the_end");
-}
-
-fn fifth<R: Files>(rt: &R) {
-    case(rt, "entry_dropped");
-    case(rt, "entry_kept_last");
-    case(rt, "names_itself");
-    case(rt, "ri_of_nothing");
-    case(rt, "lists_1024");
-    case(rt, "lists_1025");
-    case(rt, "keys_4096");
-    case(rt, "keys_4097");
-    case(rt, "all_65536");
-    case(rt, "all_65537");
-}
-
-fn sixth<R: Files>(rt: &R) {
-    case(rt, "example_of_65537");
-    case(rt, "samba_1_1_3k_2v_repaired");
-    case(rt, "samba_1_1_3k_2v");
-    case(rt, "samba_1_3_40k_3v_repaired");
-    case(rt, "samba_1_3_40k_3v");
-    case(rt, "samba_1_5_3k_2v_repaired");
-    case(rt, "samba_1_5_3k_2v");
-}
-
 fn main(rt: HostRuntime) {
-    first(&rt);
-    second(&rt);
-    third(&rt);
-    fourth(&rt);
-    fifth(&rt);
-    sixth(&rt);
+    let labels = [
+        "empty",
+        "cut_to_4095",
+        "cut_to_4096",
+        "cut_to_8191",
+        "example",
+        "one_byte_more",
+        "not_regf",
+        "wrong_checksum",
+        "bins_size_0",
+        "bins_size_4097",
+        "bins_size_4095",
+        "not_hbin",
+        "bin_elsewhere",
+        "cell_0",
+        "cell_past_the_bin",
+        "cell_of_4",
+        "root_negative",
+        "root_least",
+        "root_at_the_end",
+        "root_past_the_end",
+        "root_79_left",
+        "root_80_left",
+        "root_no_nk",
+        "root_is_the_list",
+        "root_size_79",
+        "root_free",
+        "root_name_to_the_end",
+        "root_name_past_the_end",
+        "count_most",
+        "count_above",
+        "count_0",
+        "count_0_list_gone",
+        "list_at_the_end",
+        "list_past_the_end",
+        "list_7_left",
+        "list_8_left",
+        "list_unknown",
+        "list_count_0",
+        "entries_to_the_end",
+        "entries_past_the_end",
+        "entry_dropped",
+        "entry_kept_last",
+        "names_itself",
+        "ri_of_nothing",
+        "lists_1024",
+        "lists_1025",
+        "keys_4096",
+        "keys_4097",
+        "all_65536",
+        "all_65537",
+        "example_of_65537",
+        "samba_1_1_3k_2v_repaired",
+        "samba_1_1_3k_2v",
+        "samba_1_3_40k_3v_repaired",
+        "samba_1_3_40k_3v",
+        "samba_1_5_3k_2v_repaired",
+        "samba_1_5_3k_2v",
+    ];
+    for label in labels {
+        case(&rt, label);
+    }
 }

@@ -6,10 +6,11 @@ use Rattle.words.proofs.Papers.{same-success, success-refused}
 use Rattle.name_hash.specs.Characters.{upper_of, character_of}
 use Rattle.name_hash.specs.Hash.{hash_of, name_hash_of}
 use Rattle.name_hash.specs.Case.{Unnamed, units_by, count_of, count, character, Answers, Exact, OneCase, upper_before, AsBefore}
-use Rattle.name_hash.specs.declared.HashAnswer.{HashAnswer}
 use Rattle.name_hash.proofs.Laws.{hash_exact, hash_same}
 use Rattle.name_hash.proofs.Rule.{rule}
 use Rattle.name_hash.proofs.Papers.{hash_injective}
+use Rattle.std.specs.declared.result.Result.{Result}
+use Rattle.words.specs.declared.Refusal.{Refusal}
 
 -- the hash by whether the characters are units
 abbrev hashed : Bool → List ℕ → Paper ℕ
@@ -53,7 +54,7 @@ one_case flags name other = record { alike = alike; raised = λ l h. alike l (λ
   where
     alike : length name ≡ length other
         → ((i : ℕ) → i < count flags name → upper_of (character flags name i) ≡ upper_of (character flags other i))
-        → (r t : HashAnswer) → Answers flags name r → Answers flags other t → r ≡ t
+        → (r t : Result ℕ Refusal) → Answers flags name r → Answers flags other t → r ≡ t
     alike l h r t p q =
         hash_injective r t (p ∙ by_units flags name ∙ same_hash (units_by flags) name other l h ∙ sym (by_units flags other) ∙ sym q)
 

@@ -4,8 +4,9 @@ use Rattle.words.specs.Paper.{Paper, success}
 use Rattle.words.specs.Words.{byte_at}
 use Rattle.name_hash.specs.Characters.{upper_of, character_of}
 use Rattle.name_hash.specs.Hash.{hash_of, name_hash_of, hash_paper}
-use Rattle.name_hash.specs.declared.HashAnswer.{HashAnswer}
-use Rattle.name_hash.specs.declared.HashAnswer.TheVariants.{Hash}
+use Rattle.std.specs.Prelude.{Ok}
+use Rattle.std.specs.declared.result.Result.{Result}
+use Rattle.words.specs.declared.Refusal.{Refusal}
 
 -- ---- the rule, unit by unit
 
@@ -43,7 +44,7 @@ abbrev pub character : ℕ → List ℕ → ℕ → ℕ
 character flags name i = character_of (units_by flags) name i
 
 -- what `name_hash` promises of its answer
-abbrev pub Answers : ℕ → List ℕ → HashAnswer → Type 0
+abbrev pub Answers : ℕ → List ℕ → Result ℕ Refusal → Type 0
 Answers flags name r = hash_paper r ≡ name_hash_of flags name
 
 -- The hash by the rule is the remainder of a sum that is never reduced. Proved as `exact` in proofs/Case.antt.
@@ -52,7 +53,7 @@ exact_of upper f zero = 0
 exact_of upper f (suc n) = exact_of upper f n * 37 + upper (f n)
 
 abbrev pub Exact : ℕ → List ℕ → Type 0
-Exact flags name = (h : ℕ) → Answers flags name (Hash h) → h ≡ exact_of upper_of (character flags name) (count flags name) % 2 ^ 32
+Exact flags name = (h : ℕ) → Answers flags name (Ok h) → h ≡ exact_of upper_of (character flags name) (count flags name) % 2 ^ 32
 
 -- Two names of one length, with one key's flags. Proved as `one_case` in proofs/Case.antt.
 pub record OneCase (flags : ℕ) (name other : List ℕ) : Type 0 where
@@ -60,12 +61,12 @@ pub record OneCase (flags : ℕ) (name other : List ℕ) : Type 0 where
   pub alike :
       length name ≡ length other →
       ((i : ℕ) → i < count flags name → upper_of (character flags name i) ≡ upper_of (character flags other i)) →
-      (r t : HashAnswer) → Answers flags name r → Answers flags other t → r ≡ t
+      (r t : Result ℕ Refusal) → Answers flags name r → Answers flags other t → r ≡ t
   -- so have a name and the same in upper case
   pub raised :
       length name ≡ length other →
       ((i : ℕ) → i < count flags name → character flags other i ≡ upper_of (character flags name i)) →
-      (r t : HashAnswer) → Answers flags name r → Answers flags other t → r ≡ t
+      (r t : Result ℕ Refusal) → Answers flags name r → Answers flags other t → r ≡ t
 
 -- by 01's own last sentence, which order 5 replaced: "Units of 256 and above are unchanged."
 unfoldable pub upper_before : ℕ → ℕ
@@ -76,11 +77,11 @@ pub record AsBefore (flags : ℕ) (name : List ℕ) : Type 0 where
   -- that of a name of whose characters order 5 names none is the one by that sentence
   pub unnamed :
       ((i : ℕ) → i < count flags name → Unnamed (character flags name i)) →
-      (h : ℕ) → Answers flags name (Hash h) → h ≡ hash_of upper_before (character flags name) (count flags name)
+      (h : ℕ) → Answers flags name (Ok h) → h ≡ hash_of upper_before (character flags name) (count flags name)
   -- so is that of every name in bytes
   pub bytes :
       units_by flags ≡ false → ((i : ℕ) → byte_at name i < 256) →
-      (h : ℕ) → Answers flags name (Hash h) → h ≡ hash_of upper_before (byte_at name) (length name)
+      (h : ℕ) → Answers flags name (Ok h) → h ≡ hash_of upper_before (byte_at name) (length name)
 
 -- ---- computed: names of one unit at each end of the ranges and beside it, and a word
 

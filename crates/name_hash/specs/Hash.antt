@@ -1,10 +1,10 @@
 -- Document 01, "Name hash": the hash.
 use Rattle.std.specs.Prelude.{ℕ, zero, suc, ◌+◌, ◌*◌, ◌/◌, ◌%◌, ◌^◌, true, false, cond, List, length, ◌==◌}
-use Rattle.words.specs.Paper.{Paper, success, refused, by, told}
+use Rattle.words.specs.Paper.{Paper, success, refused, by, told, paper_of}
 use Rattle.words.specs.Refusals.{BAD_NAME}
 use Rattle.name_hash.specs.Characters.{upper_of, character_of}
-use Rattle.name_hash.specs.declared.HashAnswer.{HashAnswer}
-use Rattle.name_hash.specs.declared.HashAnswer.TheVariants.{Hash, Refused}
+use Rattle.std.specs.declared.result.Result.{Result}
+use Rattle.words.specs.declared.Refusal.{Refusal}
 
 -- "From 0, for each character: hash times 37 plus the upper-case character, modulo 2^32", of the n characters f 0, f 1, ..,
 -- by any rule of upper case
@@ -21,6 +21,5 @@ name_hash_of flags name =
     (success (hash_of upper_of (character_of true name) (length name / 2))))
 
 -- what the code's answer says
-abbrev pub hash_paper : HashAnswer → Paper ℕ
-hash_paper (Hash h) = success h
-hash_paper (Refused f) = refused (told f)
+abbrev pub hash_paper : Result ℕ Refusal → Paper ℕ
+hash_paper = paper_of (λ h. h) told

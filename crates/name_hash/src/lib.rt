@@ -5,14 +5,7 @@ ghost use Rattle.std.specs.Prelude.{◌≡◌, ◌+◌, ◌*◌, ◌%◌, ◌^�
 ghost use Rattle.name_hash.specs.Characters.{between, upper_of, character_of};
 ghost use Rattle.name_hash.specs.Hash.{hash_of, name_hash_of, hash_paper};
 
-use words::Refusal;
-
-// The hash, or why there is none.
-#[derive(Clone, Copy)]
-pub enum HashAnswer {
-    Hash(u32),
-    Refused(Refusal),
-}
+use words::{Reason, Refusal};
 
 // The upper case of each character below 256.
 const UPPER: [u16; 256] = [
@@ -35,7 +28,7 @@ const UPPER: [u16; 256] = [
 fn between(first: u16, last: u16, character: u16) -> bool
     ensures { result ≡ between first last character }
 {
-    first <= character && character <= last
+    (first..=last).contains(&character)
 }
 
 // The upper-case character: below 256 the table's; above it the Cyrillic letters а to я are 32 less, ѐ to џ 80 less.
@@ -43,8 +36,7 @@ fn upper(character: u16) -> u16
     ensures { result ≡ upper_of character }
 {
     if character < 256 {
-        let at = character as usize;
-        return UPPER[at];
+        return UPPER[character as usize];
     }
     if between(1072, 1103, character) {
         return character - 32;
@@ -55,22 +47,15 @@ fn upper(character: u16) -> u16
     character
 }
 
-// 37 times a hash, modulo 2^32.
-fn times_37(hash: u32) -> u32
-    ensures { result ≡ (hash * 37) % 2 ^ 32 }
-{
-    let exact = (hash as u64) * 37;
-    (exact % 0x1_0000_0000) as u32
-}
-
 // The hash with one character more: the remainder of the exact sum.
 fn step(hash: u32, character: u16) -> u32
     ensures { result ≡ (hash * 37 + upper_of character) % 2 ^ 32 }
 {
-    std::num::wrapping_add_u32(times_37(hash), upper(character) as u32)
+    hash.wrapping_mul(37)
+        .wrapping_add(u32::from(upper(character)))
 }
 
-// Character `i` of a name: a unit of 16 bits, or a byte. The unit stands at twice `i`, a sum that need not fit, hence the two steps.
+// Character `i` of a name: a unit of 16 bits, or a byte, as the key's flag says (a bool in the definition `character_of` too). The unit stands at twice `i`, a sum that need not fit, hence the two steps.
 fn character(name: &[u8], units: bool, i: usize) -> u16
     ensures { result ≡ character_of units name.now i }
 {
@@ -78,7 +63,7 @@ fn character(name: &[u8], units: bool, i: usize) -> u16
         let rest = words::from(name, i);
         words::u16_at(rest, i)
     } else {
-        words::byte_at(name, i) as u16
+        u16::from(words::byte_at(name, i))
     }
 }
 
@@ -87,29 +72,24 @@ fn hash_characters(name: &[u8], units: bool, count: usize) -> u32
     ensures { result ≡ hash_of upper_of (character_of units name.now) count }
 {
     let mut hash: u32 = 0;
-    let mut i: usize = 0;
-    while i < count {
-        let next = character(name, units, i);
-        hash = step(hash, next);
-        i += 1;
+    for i in 0..count {
+        hash = step(hash, character(name, units, i));
     }
     hash
 }
 
 // The hash of a key's name, given with the key's flags: these say whether the name is in bytes or in units of 16 bits.
-pub fn name_hash(flags: u16, name: &[u8]) -> HashAnswer
+pub fn name_hash(flags: u16, name: &[u8]) -> Result<u32, Refusal>
     ensures { hash_paper result ≡ name_hash_of flags name.now }
 {
     if flags / 32 % 2 == 1 {
-        let hash = hash_characters(name, false, name.len());
-        return HashAnswer::Hash(hash);
+        return Ok(hash_characters(name, false, name.len()));
     }
     if name.len() % 2 == 1 {
-        return HashAnswer::Refused(Refusal {
-            number: words::BAD_NAME,
+        return Err(Refusal {
+            reason: Reason::BadName,
             position: 0,
         });
     }
-    let hash = hash_characters(name, true, name.len() / 2);
-    HashAnswer::Hash(hash)
+    Ok(hash_characters(name, true, name.len() / 2))
 }

@@ -2,98 +2,52 @@
 // the answer. Every place of a list's buffer stands behind `|`, and held 7 before.
 #![tactic(auto)]
 
-use cell_key_node::{KeyAnswer, KeyNode, ValueListAnswer};
-use cell_key_value::{KeyValue, LookupAnswer, ValueAnswer};
-use name_hash::HashAnswer;
-use sub_key_walk::WalkAnswer;
-use words::Refusal;
+use cell_key_node::KeyNode;
+use cell_key_value::{FoundValue, KeyValue};
+use console::{say, say_bytes};
+use sub_key_walk::{Counts, WalkRefusal};
+use words::{Refusal, RoomRefusal};
 
 // "nk" and "vk".
 const NK: u16 = 0x6B6E;
 
 const VK: u16 = 0x6B76;
 
-// ---- numbers and texts on the line
+// ---- texts on the line
 
-fn number(n: u64) {
-    io::write_all(1, b" ");
-    io::print_decimal(1, n);
+fn state(allocated: bool) -> &'static str {
+    if allocated { "allocated" } else { "free" }
 }
 
-fn half(n: u16) {
-    number(n as u64);
-}
-
-fn word(n: u32) {
-    number(n as u64);
-}
-
-fn place(n: usize) {
-    number(n as u64);
-}
-
-fn signed(n: i32) {
-    if n < 0 {
-        io::write_all(1, b" -");
-        io::print_decimal(1, words::magnitude(n) as u64);
-    } else {
-        word(words::magnitude(n));
-    }
-}
-
-fn short(n: u16) {
-    io::print_hex(1, n as u64, 4);
-}
-
-fn byte(n: u8) {
-    io::print_hex(1, n as u64, 2);
-}
-
-fn state(allocated: bool) {
-    if allocated {
-        io::write_all(1, b" allocated");
-    } else {
-        io::write_all(1, b" free");
-    }
-}
-
-fn text(what: &[u8], bytes: &[u8]) {
-    io::write_all(1, what);
-    io::write_all(1, b" \"");
-    io::write_all(1, bytes);
-    io::write_all(1, b"\"");
+fn text(what: &str, bytes: &[u8]) {
+    say!("{what} \"");
+    say_bytes(bytes);
+    say!("\"");
 }
 
 fn refused(f: Refusal) {
-    io::write_all(1, b" refused");
-    word(f.number);
-    place(f.position);
-}
-
-fn line() {
-    io::write_all(1, b"\n");
+    say!(" refused {} {}", f.reason.number(), f.position);
 }
 
 // ---- bytes put into an image, where it has them
 
-fn put(image: &mut [u8], at: usize, byte: u8) {
+fn put_all(image: &mut [u8], at: usize, bytes: &[u8]) {
     if at < image.len() {
-        image[at] = byte;
+        let n = bytes.len().min(image.len() - at);
+        image[at..at + n].copy_from_slice(&bytes[..n]);
     }
+}
+
+fn put(image: &mut [u8], at: usize, byte: u8) {
+    put_all(image, at, &[byte]);
 }
 
 fn put_16(image: &mut [u8], at: usize, n: u16) {
-    if at < image.len() {
-        put(image, at, (n % 256) as u8);
-        put(image, at + 1, (n / 256) as u8);
-    }
+    put_all(image, at, &n.to_le_bytes());
 }
 
 fn put_32(image: &mut [u8], at: usize, n: u32) {
-    if at < image.len() {
-        put_16(image, at, (n % 65536) as u16);
-        put_16(image, at + 2, (n / 65536) as u16);
-    }
+    put_all(image, at, &n.to_le_bytes());
 }
 
 // A record: its size word, its signature, the length of its name at a place of it, and eight letters after its fixed part.
@@ -119,203 +73,148 @@ fn put_record(
 
 fn key_answer(image: &[u8], at: usize) {
     match cell_key_node::read_key_node(image, at, 0) {
-        KeyAnswer::Key(key) => {
-            io::write_all(1, b" read");
-            state(key.allocated);
-        }
-        KeyAnswer::Refused(f) => {
-            refused(f);
-        }
+        Ok(key) => say!(" read {}", state(key.allocated)),
+        Err(f) => refused(f),
     }
-    text(b" name", cell_key_node::key_name(image, at));
-    text(b" slack", cell_key_node::key_slack(image, at));
-    line();
+    text(" name", cell_key_node::key_name(image, at));
+    text(" slack", cell_key_node::key_slack(image, at));
+    say!("\n");
 }
 
 // What is tried: a record at a position of an image of so many bytes, its size word, its signature, the length of its name.
-fn tried(what: &[u8], at: usize, length: usize, size: &[u8], sign: u16, name: u16) {
-    io::write_all(1, what);
-    place(at);
-    io::write_all(1, b" of");
-    place(length);
-    io::write_all(1, b", size");
-    signed(words::i32_at(size, 0));
-    io::write_all(1, b", ");
-    let letters = [(sign % 256) as u8, (sign / 256) as u8];
-    io::write_all(1, &letters);
-    io::write_all(1, b", name");
-    half(name);
-    io::write_all(1, b":");
+fn tried(what: &str, at: usize, length: usize, size: u32, sign: u16, name: u16) {
+    let size = i32::from_le_bytes(size.to_le_bytes());
+    say!("{what} {at} of {length}, size {size}, ");
+    say_bytes(&sign.to_le_bytes());
+    say!(", name {name}:");
 }
 
 fn key_case(at: usize, size: u32, sign: u16, name: u16, length: usize) {
-    let mut first = [0u8; 4];
-    put_32(&mut first, 0, size);
-    tried(b"key at", at, length, &first, sign, name);
+    tried("key at", at, length, size, sign, name);
     let mut image = [0u8; 104];
     put_record(&mut image, at, size, sign, 76, name, 80);
     key_answer(words::part(&image, 0, length), at);
 }
 
 fn key_line_of_numbers(key: KeyNode) {
-    signed(key.size);
-    state(key.allocated);
-    half(key.key_node_flag_bits);
-    number(key.last_key_written_time);
-    word(key.access_flag_bits);
-    signed(key.parent_key_offset_relative);
-    word(key.number_of_sub_keys);
-    word(key.number_of_volatile_sub_keys);
-    word(key.sub_keys_list_offset_relative);
-    signed(key.volatile_sub_keys_list_offset_relative);
-    word(key.number_of_key_values);
-    signed(key.key_values_list_offset_relative);
-    word(key.security_key_offset_relative);
-    signed(key.class_name_offset_relative);
-    word(key.largest_sub_key_name_size);
-    word(key.largest_sub_key_class_name_size);
-    word(key.largest_value_name_size);
-    word(key.largest_value_data_size);
-    word(key.work_var);
-    half(key.key_name_size);
-    half(key.class_name_size);
+    say!(
+        " {} {} {} {} {} {} {} {} {} {} {} {} {} {} {} {} {} {} {} {} {}",
+        key.size,
+        state(key.allocated),
+        key.key_node_flag_bits,
+        key.last_key_written_time,
+        key.access_flag_bits,
+        key.parent_key_offset_relative,
+        key.number_of_sub_keys,
+        key.number_of_volatile_sub_keys,
+        key.sub_keys_list_offset_relative,
+        key.volatile_sub_keys_list_offset_relative,
+        key.number_of_key_values,
+        key.key_values_list_offset_relative,
+        key.security_key_offset_relative,
+        key.class_name_offset_relative,
+        key.largest_sub_key_name_size,
+        key.largest_sub_key_class_name_size,
+        key.largest_value_name_size,
+        key.largest_value_data_size,
+        key.work_var,
+        key.key_name_size,
+        key.class_name_size,
+    );
 }
 
 // The bytes of each number but the signed ones are their own places in the record.
 fn key_numbers() {
-    io::write_all(1, b"key numbers:");
+    say!("key numbers:");
     let image =
         b"\xb0\xff\xff\xffnk\x06\x07\x08\x09\x0a\x0b\x0c\x0d\x0e\x0f\x10\x11\x12\x13\xfe\xff\xff\xff\x18\x19\x1a\x1b\x1c\x1d\x1e\x1f\x20\x21\x22\x23\xfd\xff\xff\xff\x28\x29\x2a\x2b\xfc\xff\xff\xff\x30\x31\x32\x33\x00\x00\x00\x80\x38\x39\x3a\x3b\x3c\x3d\x3e\x3f\x40\x41\x42\x43\x44\x45\x46\x47\x48\x49\x4a\x4b\x00\x00\x4e\x4f";
     match cell_key_node::read_key_node(image, 0, 0) {
-        KeyAnswer::Key(key) => {
-            key_line_of_numbers(key);
-        }
-        KeyAnswer::Refused(f) => {
-            refused(f);
-        }
+        Ok(key) => key_line_of_numbers(key),
+        Err(f) => refused(f),
     }
-    line();
+    say!("\n");
 }
 
 // ---- value records
 
 fn value_answer(image: &[u8], at: usize) {
     match cell_key_value::read_key_value(image, at) {
-        ValueAnswer::Value(value) => {
-            io::write_all(1, b" read");
-            state(value.allocated);
-        }
-        ValueAnswer::Refused(f) => {
-            refused(f);
-        }
+        Ok(value) => say!(" read {}", state(value.allocated)),
+        Err(f) => refused(f),
     }
-    text(b" name", cell_key_value::value_name(image, at));
-    line();
+    text(" name", cell_key_value::value_name(image, at));
+    say!("\n");
 }
 
 fn value_case(at: usize, size: u32, sign: u16, name: u16, length: usize) {
-    let mut first = [0u8; 4];
-    put_32(&mut first, 0, size);
-    tried(b"value at", at, length, &first, sign, name);
+    tried("value at", at, length, size, sign, name);
     let mut image = [0u8; 48];
     put_record(&mut image, at, size, sign, 6, name, 24);
     value_answer(words::part(&image, 0, length), at);
 }
 
 fn value_numbers() {
-    io::write_all(1, b"value numbers:");
+    say!("value numbers:");
     let image =
         b"\xe8\xff\xff\xffvk\x00\x00\x08\x09\x0a\x8b\x0c\x0d\x0e\xff\x10\x11\x12\x13\x14\x15\x16\x17";
     match cell_key_value::read_key_value(image, 0) {
-        ValueAnswer::Value(value) => {
-            signed(value.size);
-            state(value.allocated);
-            half(value.value_name_size);
-            word(value.data_size_raw);
-            word(value.data_offset_relative);
-            word(value.data_type_raw);
-            half(value.flags_raw);
-        }
-        ValueAnswer::Refused(f) => {
-            refused(f);
-        }
+        Ok(value) => say!(
+            " {} {} {} {} {} {} {}",
+            value.size,
+            state(value.allocated),
+            value.value_name_size,
+            value.data_size_raw,
+            value.data_offset_relative,
+            value.data_type_raw,
+            value.flags_raw,
+        ),
+        Err(f) => refused(f),
     }
-    line();
+    say!("\n");
 }
 
 // ---- value lists
 
-fn place_of(out: &[u32], i: usize) {
-    if i < out.len() {
-        word(out[i]);
-    }
-}
-
 fn places(out: &[u32]) {
-    io::write_all(1, b" |");
-    place_of(out, 0);
-    place_of(out, 1);
-    place_of(out, 2);
-    line();
+    say!(" |");
+    for place in out {
+        say!(" {place}");
+    }
+    say!("\n");
 }
 
-fn list_answer(answer: ValueListAnswer) {
+fn list_answer(answer: Result<u32, RoomRefusal>) {
     match answer {
-        ValueListAnswer::Listed(n) => {
-            io::write_all(1, b" listed");
-            word(n);
-        }
-        ValueListAnswer::Refused(f) => {
-            io::write_all(1, b" refused");
-            word(f.number);
-            place(f.position);
-            place(f.places);
-        }
+        Ok(n) => say!(" listed {n}"),
+        Err(f) => say!(
+            " refused {} {} {}",
+            f.reason.number(),
+            f.position,
+            f.places,
+        ),
     }
 }
 
 // The numbers of a key record: base, count and offset.
 fn numbers(base: u32, count: u32, offset: i32) {
-    io::write_all(1, b", base");
-    word(base);
-    io::write_all(1, b", count");
-    word(count);
-    io::write_all(1, b", offset");
-    signed(offset);
+    say!(", base {base}, count {count}, offset {offset}");
 }
 
 // In the first bytes of an image that has a list of two entries at 4: 16 and 2147483680.
 fn list_line(length: usize, base: u32, count: u32, offset: i32, out: &mut [u32]) {
-    io::write_all(1, b"values in");
-    place(length);
+    say!("values in {length}");
     numbers(base, count, offset);
-    io::write_all(1, b":");
+    say!(":");
     let whole = b"head\xf0\xff\xff\xff\x10\x00\x00\x00\x20\x00\x00\x80";
     let image = words::part(whole, 0, length);
-    let answer = cell_key_node::value_list(image, base, count, offset, out);
-    list_answer(answer);
+    list_answer(cell_key_node::value_list(image, base, count, offset, out));
     places(out);
 }
 
-// Into a buffer of three places, of two, of one and of none.
-fn three(length: usize, base: u32, count: u32, offset: i32) {
+// Into a buffer of so many places, at most three.
+fn list_case(places: usize, length: usize, base: u32, count: u32, offset: i32) {
     let mut out = [7u32; 3];
-    list_line(length, base, count, offset, &mut out);
-}
-
-fn two(length: usize, base: u32, count: u32, offset: i32) {
-    let mut out = [7u32; 2];
-    list_line(length, base, count, offset, &mut out);
-}
-
-fn one(length: usize, base: u32, count: u32, offset: i32) {
-    let mut out = [7u32; 1];
-    list_line(length, base, count, offset, &mut out);
-}
-
-fn none(length: usize, base: u32, count: u32, offset: i32) {
-    let mut out = [7u32; 0];
-    list_line(length, base, count, offset, &mut out);
+    list_line(length, base, count, offset, &mut out[..places.min(3)]);
 }
 
 // ---- lookups
@@ -358,34 +257,30 @@ fn values_image() -> [u8; 128] {
     image
 }
 
-fn found_line(answer: LookupAnswer) {
-    io::write_all(1, b":");
+fn found_line(answer: Result<FoundValue, Refusal>) {
+    say!(":");
     match answer {
-        LookupAnswer::Found(found) => {
-            io::write_all(1, b" found");
-            place(found.position);
+        Ok(found) => {
+            say!(" found {}", found.position);
             found_value(found.value);
         }
-        LookupAnswer::Refused(f) => {
-            refused(f);
-        }
+        Err(f) => refused(f),
     }
-    line();
+    say!("\n");
 }
 
 fn found_value(value: KeyValue) {
-    signed(value.size);
-    state(value.allocated);
-    half(value.value_name_size);
-    half(value.flags_raw);
+    say!(
+        " {} {} {} {}",
+        value.size,
+        state(value.allocated),
+        value.value_name_size,
+        value.flags_raw,
+    );
 }
 
 fn changed(at: usize, n: u8) {
-    io::write_all(1, b"lookup, byte");
-    place(at);
-    io::write_all(1, b" as");
-    number(n as u64);
-    io::write_all(1, b",");
+    say!("lookup, byte {at} as {n},");
 }
 
 fn look_changed(at: usize, n: u8, name: &[u8]) {
@@ -397,7 +292,7 @@ fn look_changed(at: usize, n: u8, name: &[u8]) {
 // A lookup in the image of three values, with one byte of it changed.
 fn look(at: usize, n: u8, name: &[u8]) {
     changed(at, n);
-    text(b"", name);
+    text("", name);
     look_changed(at, n, name);
 }
 
@@ -409,19 +304,16 @@ fn look_none(at: usize, n: u8) {
 fn look_odd(at: usize, n: u8, first: u8, second: u8) {
     let name = [first, second];
     changed(at, n);
-    io::write_all(1, b" ");
-    byte(first);
-    io::write_all(1, b" ");
-    byte(second);
+    say!(" {first:02x} {second:02x}");
     look_changed(at, n, &name);
 }
 
 // A lookup of `x` in the same image, by other numbers of the key record.
 fn find(base: u32, count: u32, offset: i32) {
     let image = values_image();
-    io::write_all(1, b"lookup");
+    say!("lookup");
     numbers(base, count, offset);
-    text(b",", b"x");
+    text(",", b"x");
     found_line(cell_key_value::find_value(&image, base, count, offset, b"x"));
 }
 
@@ -447,40 +339,35 @@ fn keyed_image() -> [u8; 224] {
 fn values_line(image: &[u8], key: KeyNode) {
     let mut out = [7u32; 3];
     let answer = key_in_place::value_list_of(image, key, &mut out);
-    io::write_all(1, b"values of a record:");
+    say!("values of a record:");
     list_answer(answer);
     places(&out);
 }
 
-fn walk_answer(answer: WalkAnswer) {
+fn walk_answer(answer: Result<Counts, WalkRefusal>) {
     match answer {
-        WalkAnswer::Read(counts) => {
-            io::write_all(1, b" read");
-            word(counts.kept);
-            word(counts.lists);
-            word(counts.entries);
-            word(counts.dropped);
-        }
-        WalkAnswer::Refused(f) => {
-            io::write_all(1, b" refused");
-            word(f.number);
-            place(f.position);
-        }
+        Ok(counts) => say!(
+            " read {} {} {} {}",
+            counts.kept,
+            counts.lists,
+            counts.entries,
+            counts.dropped,
+        ),
+        Err(f) => say!(" refused {} {}", f.reason.number(), f.position),
     }
 }
 
 fn sub_keys_line(image: &[u8], key: KeyNode) {
     let mut out = [7u32; 3];
     let answer = key_in_place::sub_keys_of(image, key, 1024, &mut out);
-    io::write_all(1, b"subkeys of a record:");
+    say!("subkeys of a record:");
     walk_answer(answer);
     places(&out);
 }
 
 fn value_of_record_line(image: &[u8], key: KeyNode) {
-    let answer = key_in_place::find_value_of(image, key, b"SPEED");
-    io::write_all(1, b"SPEED in a record");
-    found_line(answer);
+    say!("SPEED in a record");
+    found_line(key_in_place::find_value_of(image, key, b"SPEED"));
 }
 
 fn lines_of(image: &[u8], key: KeyNode) {
@@ -493,13 +380,13 @@ fn lines_of(image: &[u8], key: KeyNode) {
 fn record_lines() {
     let image = keyed_image();
     match cell_key_node::read_key_node(&image, 128, 4) {
-        KeyAnswer::Key(key) => {
+        Ok(key) => {
             lines_of(&image, key);
             lines_of(&values_image(), key);
         }
-        KeyAnswer::Refused(f) => {
+        Err(f) => {
             refused(f);
-            line();
+            say!("\n");
         }
     }
 }
@@ -507,51 +394,36 @@ fn record_lines() {
 // ---- hashes
 
 fn hash_answer(flags: u16, name: &[u8]) {
-    io::write_all(1, b":");
     match name_hash::name_hash(flags, name) {
-        HashAnswer::Hash(hash) => {
-            io::write_all(1, b" hash");
-            word(hash);
-        }
-        HashAnswer::Refused(f) => {
+        Ok(hash) => say!(": hash {hash}"),
+        Err(f) => {
+            say!(":");
             refused(f);
         }
     }
-    line();
+    say!("\n");
 }
 
 fn hash_tried(flags: u16) {
-    io::write_all(1, b"hash, flags ");
-    short(flags);
-    io::write_all(1, b",");
-}
-
-fn byte_of(name: &[u8], i: usize) {
-    if i < name.len() {
-        io::write_all(1, b" ");
-        byte(name[i]);
-    }
+    say!("hash, flags {flags:04x},");
 }
 
 fn hash_of_bytes(flags: u16, name: &[u8]) {
     hash_tried(flags);
-    byte_of(name, 0);
-    byte_of(name, 1);
-    byte_of(name, 2);
-    byte_of(name, 3);
+    for byte in name {
+        say!(" {byte:02x}");
+    }
     hash_answer(flags, name);
 }
 
 // The first bytes of a word, the lowest first, as a name.
 fn hash_case(flags: u16, length: usize, bytes: u32) {
-    let mut name = [0u8; 4];
-    put_32(&mut name, 0, bytes);
-    hash_of_bytes(flags, words::part(&name, 0, length));
+    hash_of_bytes(flags, words::part(&bytes.to_le_bytes(), 0, length));
 }
 
 fn hash_name(flags: u16, name: &[u8]) {
     hash_tried(flags);
-    text(b"", name);
+    text("", name);
     hash_answer(flags, name);
 }
 
@@ -638,48 +510,48 @@ fn every_number() {
 
 // Value lists: count 0, then 6.
 fn list_offsets() {
-    three(16, 0, 0, 0);
-    three(0, 4294967295, 0, -1);
-    three(16, 0, 1, 0);
-    three(16, 0, 1, 1);
-    three(16, 5, 1, -1);
-    three(16, 0, 1, -2147483648);
-    three(16, 0, 1, 2147483647);
-    three(8, 4096, 1, 8);
-    three(8, 4096, 1, 7);
-    three(8, 0, 1, 8);
-    three(8, 0, 1, 7);
-    three(0, 0, 1, 1);
+    list_case(3, 16, 0, 0, 0);
+    list_case(3, 0, 4294967295, 0, -1);
+    list_case(3, 16, 0, 1, 0);
+    list_case(3, 16, 0, 1, 1);
+    list_case(3, 16, 5, 1, -1);
+    list_case(3, 16, 0, 1, -2147483648);
+    list_case(3, 16, 0, 1, 2147483647);
+    list_case(3, 8, 4096, 1, 8);
+    list_case(3, 8, 4096, 1, 7);
+    list_case(3, 8, 0, 1, 8);
+    list_case(3, 8, 0, 1, 7);
+    list_case(3, 0, 0, 1, 1);
 }
 
 // 7, then 2, then 8.
 fn list_counts_and_places() {
-    three(16, 0, 1048577, 0);
-    three(16, 0, 1048577, 4);
-    three(16, 4096, 1048577, 4);
-    three(16, 0, 4294967295, 4);
-    three(16, 0, 1048576, 4);
-    three(16, 4096, 1048576, 4);
-    three(16, 2, 1, 15);
-    three(16, 1, 1, 15);
-    three(16, 4294967295, 2, 4);
-    three(16, 0, 1, 4);
-    three(16, 0, 2, 4);
-    three(15, 0, 2, 4);
-    three(16, 0, 3, 4);
-    three(16, 3, 2, 1);
+    list_case(3, 16, 0, 1048577, 0);
+    list_case(3, 16, 0, 1048577, 4);
+    list_case(3, 16, 4096, 1048577, 4);
+    list_case(3, 16, 0, 4294967295, 4);
+    list_case(3, 16, 0, 1048576, 4);
+    list_case(3, 16, 4096, 1048576, 4);
+    list_case(3, 16, 2, 1, 15);
+    list_case(3, 16, 1, 1, 15);
+    list_case(3, 16, 4294967295, 2, 4);
+    list_case(3, 16, 0, 1, 4);
+    list_case(3, 16, 0, 2, 4);
+    list_case(3, 15, 0, 2, 4);
+    list_case(3, 16, 0, 3, 4);
+    list_case(3, 16, 3, 2, 1);
 }
 
 // Last 9, with the places needed.
 fn list_rooms() {
-    two(16, 0, 2, 4);
-    one(16, 0, 2, 4);
-    none(16, 0, 2, 4);
-    one(16, 0, 1, 4);
-    none(16, 0, 1, 4);
-    none(16, 0, 0, 4);
-    one(15, 0, 2, 4);
-    none(16, 0, 1, 0);
+    list_case(2, 16, 0, 2, 4);
+    list_case(1, 16, 0, 2, 4);
+    list_case(0, 16, 0, 2, 4);
+    list_case(1, 16, 0, 1, 4);
+    list_case(0, 16, 0, 1, 4);
+    list_case(0, 16, 0, 0, 4);
+    list_case(1, 15, 0, 2, 4);
+    list_case(0, 16, 0, 1, 0);
 }
 
 // The same from a key record, by value.

@@ -2,13 +2,12 @@
 // is told.
 #![tactic(auto)]
 
-ghost use Rattle.std.specs.Prelude.{◌≡◌, length};
-ghost use Rattle.words.specs.Words.{byte_at};
-ghost use Rattle.replay_case.specs.Case.{fresh, renewed};
+ghost use Rattle.std.specs.Prelude.{◌≡◌, ◌<◌, ℕ, length, map};
+ghost use Rattle.replay_case.specs.Case.{bit, fresh, renewed};
 ghost use Rattle.replay_case.specs.Sums.{one_more, sums_of, place_at};
 
 // A case's five words, and the lengths of its name and its image.
-#[derive(Clone, Copy)]
+#[derive(Clone, Copy, Default)]
 pub struct Case {
     pub a: u32,
     pub b: u32,
@@ -20,19 +19,27 @@ pub struct Case {
 }
 
 // A row's sum, and the sum of its running sums, both in 64 bits.
-#[derive(Clone, Copy)]
+#[derive(Clone, Copy, Default)]
 pub struct Sums {
     pub plain: u64,
     pub running: u64,
+}
+
+// A bit of a mask.
+#[tactic(auto, using(std::proofs::lemmas::Nat::Bits::shr_and_one))]
+fn bit(mask: u8, i: u8) -> u8
+    requires { i < 8 }
+    ensures { result ≡ bit mask i }
+{
+    mask >> i & 1
 }
 
 // The new word behind `before` others where the bit is 1, else the old one.
 fn word(news: &[u8], before: u8, bit: u8, old: u32) -> u32
     ensures { result ≡ fresh news.now before bit old }
 {
-    let at = 4 * (before as usize);
     if bit == 1 {
-        words::u32_at(news, at)
+        words::u32_at(news, 4 * before as usize)
     } else {
         old
     }
@@ -42,13 +49,13 @@ fn word(news: &[u8], before: u8, bit: u8, old: u32) -> u32
 pub fn renew(old: Case, mask: u8, news: &[u8]) -> Case
     ensures { result ≡ renewed old mask news.now }
 {
-    let bit_a = mask / 1 % 2;
-    let bit_b = mask / 2 % 2;
-    let bit_c = mask / 4 % 2;
-    let bit_d = mask / 8 % 2;
-    let bit_e = mask / 16 % 2;
-    let bit_name = mask / 32 % 2;
-    let bit_image = mask / 64 % 2;
+    let bit_a = bit(mask, 0);
+    let bit_b = bit(mask, 1);
+    let bit_c = bit(mask, 2);
+    let bit_d = bit(mask, 3);
+    let bit_e = bit(mask, 4);
+    let bit_name = bit(mask, 5);
+    let bit_image = bit(mask, 6);
     let before_c = bit_a + bit_b;
     let before_d = before_c + bit_c;
     let before_e = before_d + bit_d;
@@ -65,78 +72,57 @@ pub fn renew(old: Case, mask: u8, news: &[u8]) -> Case
     }
 }
 
-// The sums with one number more.
-pub fn more(sums: Sums, x: u64) -> Sums
-    ensures { result ≡ one_more sums x }
-{
-    let plain = std::num::wrapping_add_u64(sums.plain, x);
-    let running = std::num::wrapping_add_u64(sums.running, plain);
-    Sums { plain, running }
+// What a row has in its places, and the number in 64 bits that each is.
+pub trait Number: Copy {
+    ghost number: { Self → ℕ };
+
+    fn wide(self) -> u64
+        ensures { result ≡ number self };
 }
 
-// The sums of a row of bytes.
-pub fn byte_sums(row: &[u8]) -> Sums
-    ensures { result ≡ sums_of (byte_at row.now) (length row.now) }
-{
-    let mut sums = Sums {
-        plain: 0,
-        running: 0,
-    };
-    let mut i: usize = 0;
-    while i < row.len() {
-        sums = more(sums, words::byte_at(row, i) as u64);
-        i += 1;
-    }
-    sums
-}
+impl Number for u8 {
+    ghost number = { λ x. x };
 
-// The number at a place of a row.
-fn place_at(row: &[u32], i: usize) -> u64
-    ensures { result ≡ place_at row.now i }
-{
-    if i < row.len() {
-        let x = row[i];
-        x as u64
-    } else {
-        0
+    fn wide(self) -> u64 {
+        self as u64
     }
 }
 
-// The sums of a row of places.
-pub fn place_sums(row: &[u32]) -> Sums
-    ensures { result ≡ sums_of (place_at row.now) (length row.now) }
-{
-    let mut sums = Sums {
-        plain: 0,
-        running: 0,
-    };
-    let mut i: usize = 0;
-    while i < row.len() {
-        sums = more(sums, place_at(row, i));
-        i += 1;
+impl Number for u32 {
+    ghost number = { λ x. x };
+
+    fn wide(self) -> u64 {
+        self as u64
     }
-    sums
 }
 
-// The number at a place of a row of 64-bit places.
-fn wide_at(row: &[u64], i: usize) -> u64
-    ensures { result ≡ place_at row.now i }
-{
-    if i < row.len() { row[i] } else { 0 }
+impl Number for u64 {
+    ghost number = { λ x. x };
+
+    fn wide(self) -> u64 {
+        self
+    }
 }
 
-// The sums of a row of 64-bit places.
-pub fn wide_sums(row: &[u64]) -> Sums
-    ensures { result ≡ sums_of (place_at row.now) (length row.now) }
-{
-    let mut sums = Sums {
-        plain: 0,
-        running: 0,
-    };
-    let mut i: usize = 0;
-    while i < row.len() {
-        sums = more(sums, wide_at(row, i));
-        i += 1;
+impl Sums {
+    // The sums with one number more.
+    #[tactic(auto, unfolding(crate::specs::Sums::one_more))]
+    pub fn more(self, x: u64) -> Sums
+        ensures { result ≡ one_more self x }
+    {
+        let plain = self.plain.wrapping_add(x);
+        let running = self.running.wrapping_add(plain);
+        Sums { plain, running }
     }
-    sums
+
+    // The sums of a row of bytes, of places or of 64-bit places.
+    pub fn of_row<T: Number>(row: &[T]) -> Sums
+        ensures { result ≡ sums_of (place_at (map T.number row.now)) (length row.now) }
+    {
+        let mut sums = Sums::default();
+        for x in row {
+            sums = sums.more(x.wide());
+        }
+        sums
+    }
 }

@@ -1,10 +1,11 @@
 // The project's functions for listings of a key's subkeys, called with what a case gives them, and their answers written out.
-use super::{lines, listings};
+use console::say;
 use replay_case::Case;
+use replay_stream::listings;
 
-pub fn answer(tag: u8, case: Case, image: &[u8], name: &[u8], out: &mut [u32]) {
+pub fn answer(tag: u8, case: Case, image: &[u8], name: &[u8], _out: &mut [u32]) {
     match tag {
         40..=42 => listings::answer(tag, case, image, name),
-        _ => lines::text(b" none"),
+        _ => say!(" none"),
     }
 }

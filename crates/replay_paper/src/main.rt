@@ -3,22 +3,9 @@
 #![tactic(auto)]
 
 mod answers;
-mod buffers;
-mod bytes;
-mod conversion;
-mod lines;
-mod listings;
-mod parts;
-mod place;
-mod places;
-mod stream;
-mod totals;
-mod values;
-mod walks;
+
+use replay_stream::stream;
 
 fn main() {
-    let mut image = stream::bytes_space::<524288>();
-    let mut name = stream::bytes_space::<65536>();
-    let mut out = stream::places_space::<262144>();
-    stream::replay(&mut image, &mut name, &mut out);
+    stream::replay(answers::answer);
 }

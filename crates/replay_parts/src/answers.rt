@@ -1,7 +1,8 @@
 // The project's functions for bins as they arrive, for totals beside the keys, for the strict profile, with the ordinary reading beside that,
 // for lists written as the other kind, and for records that know their place, called with what a case gives them, and their answers written out.
-use super::{conversion, lines, parts, place, totals, walks};
+use console::say;
 use replay_case::Case;
+use replay_stream::{conversion, parts, place, totals, walks};
 
 pub fn answer(tag: u8, case: Case, image: &[u8], name: &[u8], out: &mut [u32]) {
     match tag {
@@ -12,6 +13,6 @@ pub fn answer(tag: u8, case: Case, image: &[u8], name: &[u8], out: &mut [u32]) {
         35..=37 => conversion::answer(tag, case, image, name),
         38 => place::with_record(case, image, name, out),
         39 => place::record_place(case, image),
-        _ => lines::text(b" none"),
+        _ => say!(" none"),
     }
 }

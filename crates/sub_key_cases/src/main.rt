@@ -5,66 +5,49 @@
 
 ghost use Rattle.std.specs.Prelude.{◌≤◌};
 
-use sub_key_walk::WalkAnswer;
+use console::say;
+use sub_key_walk::{Counts, WalkRefusal};
 
-fn wide(x: u32) -> u64 {
-    x as u64
-}
-
-fn number(n: u64) {
-    io::write_all(1, b" ");
-    io::print_decimal(1, n);
-}
-
-fn answer(label: &[u8], a: WalkAnswer) {
-    io::write_all(1, label);
-    match a {
-        WalkAnswer::Read(c) => {
-            io::write_all(1, b": read");
-            number(wide(c.kept));
-            number(wide(c.lists));
-            number(wide(c.entries));
-            number(wide(c.dropped));
-        }
-        WalkAnswer::Refused(f) => {
-            io::write_all(1, b": refused");
-            number(wide(f.number));
-            number(f.position as u64);
-            number(wide(f.lists));
-            number(wide(f.places));
-            number(wide(f.entries));
-            number(wide(f.dropped));
-        }
+fn answer(label: &str, answer: Result<Counts, WalkRefusal>) {
+    match answer {
+        Ok(c) => say!(
+            "{label}: read {} {} {} {}",
+            c.kept,
+            c.lists,
+            c.entries,
+            c.dropped,
+        ),
+        Err(f) => say!(
+            "{label}: refused {} {} {} {} {} {}",
+            f.reason.number(),
+            f.position,
+            f.lists,
+            f.places,
+            f.entries,
+            f.dropped,
+        ),
     }
 }
 
 fn places(out: &[u32]) {
-    io::write_all(1, b" |");
-    let mut i = 0;
-    while i < out.len() {
-        number(wide(out[i]));
-        i = i + 1;
+    say!(" |");
+    for place in out {
+        say!(" {place}");
     }
-    io::write_all(1, b"\n");
+    say!("\n");
 }
 
 // A walk from a list at an offset into a buffer, with its line.
-fn walk(
-    label: &[u8],
-    image: &[u8],
-    base: u32,
-    count: u32,
-    list: u32,
-    budget: u32,
-    out: &mut [u32],
-) {
-    let a = sub_key_walk::sub_keys(image, base, count, list, budget, out);
-    answer(label, a);
+fn walk(label: &str, image: &[u8], base: u32, count: u32, list: u32, budget: u32, out: &mut [u32]) {
+    answer(
+        label,
+        sub_key_walk::sub_keys(image, base, count, list, budget, out),
+    );
     places(out);
 }
 
 // The same into a buffer of so many places.
-fn case(label: &[u8], image: &[u8], base: u32, count: u32, list: u32, budget: u32, room: usize)
+fn case(label: &str, image: &[u8], base: u32, count: u32, list: u32, budget: u32, room: usize)
     requires { room ≤ 5 }
 {
     let mut buffer = [7u32; 5];
@@ -75,19 +58,19 @@ fn case(label: &[u8], image: &[u8], base: u32, count: u32, list: u32, budget: u3
 fn record_numbers() {
     let li =
         b"\x00\x00\x00\x00\x00\x00\x00\x00\xe8\xff\xff\xffli\x02\x00\x10\x00\x00\x00\x20\x00\x00\x00";
-    case(b"budget 65537", li, 3, 2, 5, 65537, 3);
-    case(b"budget 65536", li, 3, 2, 5, 65536, 3);
-    case(b"budget 1", li, 3, 2, 5, 1, 3);
-    case(b"budget 0", li, 3, 2, 5, 0, 3);
-    case(b"budget 65537, count 1048577", li, 3, 1048577, 5, 65537, 3);
-    case(b"budget 65537, count 0", li, 3, 0, 5, 65537, 3);
-    case(b"count 1048577", li, 3, 1048577, 5, 1024, 3);
-    case(b"count 1048577, budget 0", li, 3, 1048577, 5, 0, 3);
-    case(b"count 1048576", li, 3, 1048576, 5, 1024, 3);
-    case(b"count 1", li, 3, 1, 5, 1024, 3);
-    case(b"count 0", li, 3, 0, 5, 1024, 3);
+    case("budget 65537", li, 3, 2, 5, 65537, 3);
+    case("budget 65536", li, 3, 2, 5, 65536, 3);
+    case("budget 1", li, 3, 2, 5, 1, 3);
+    case("budget 0", li, 3, 2, 5, 0, 3);
+    case("budget 65537, count 1048577", li, 3, 1048577, 5, 65537, 3);
+    case("budget 65537, count 0", li, 3, 0, 5, 65537, 3);
+    case("count 1048577", li, 3, 1048577, 5, 1024, 3);
+    case("count 1048577, budget 0", li, 3, 1048577, 5, 0, 3);
+    case("count 1048576", li, 3, 1048576, 5, 1024, 3);
+    case("count 1", li, 3, 1, 5, 1024, 3);
+    case("count 0", li, 3, 0, 5, 1024, 3);
     case(
-        b"count 0, budget 0, list outside",
+        "count 0, budget 0, list outside",
         li,
         3,
         0,
@@ -102,16 +85,16 @@ fn positions() {
     let li = b"\x00\x00\x00\x00li\x02\x00\x10\x00\x00\x00\x20\x00\x00\x00";
     let seven = b"\x00\x00\x00\x00li\x02";
     let none = b"";
-    case(b"list at the image's length plus 1", li, 0, 1, 17, 1024, 2);
-    case(b"list at the image's length", li, 0, 1, 16, 1024, 2);
-    case(b"7 bytes left", li, 4, 1, 5, 1024, 2);
-    case(b"8 bytes left, no kind", li, 4, 1, 4, 1024, 2);
-    case(b"16 bytes left", li, 0, 1, 0, 1024, 2);
-    case(b"image of 7 bytes", seven, 0, 1, 0, 1024, 2);
-    case(b"empty image, list at 0", none, 0, 1, 0, 1024, 2);
-    case(b"empty image, list at 1", none, 1, 1, 0, 1024, 2);
+    case("list at the image's length plus 1", li, 0, 1, 17, 1024, 2);
+    case("list at the image's length", li, 0, 1, 16, 1024, 2);
+    case("7 bytes left", li, 4, 1, 5, 1024, 2);
+    case("8 bytes left, no kind", li, 4, 1, 4, 1024, 2);
+    case("16 bytes left", li, 0, 1, 0, 1024, 2);
+    case("image of 7 bytes", seven, 0, 1, 0, 1024, 2);
+    case("empty image, list at 0", none, 0, 1, 0, 1024, 2);
+    case("empty image, list at 1", none, 1, 1, 0, 1024, 2);
     case(
-        b"greatest base and offset",
+        "greatest base and offset",
         li,
         4294967295,
         1,
@@ -128,13 +111,13 @@ fn kinds() {
     let lx = b"\xf0\xff\xff\xfflx\x01\x00\x10\x00\x00\x00hint";
     let il = b"\xf0\xff\xff\xffil\x01\x00\x10\x00\x00\x00hint";
     let upper = b"\xf0\xff\xff\xffLI\x01\x00\x10\x00\x00\x00hint";
-    case(b"lf", lf, 0, 1, 0, 1024, 2);
-    case(b"lh", lh, 0, 1, 0, 1024, 2);
-    case(b"li", li, 0, 1, 0, 1024, 2);
-    case(b"lx", lx, 0, 1, 0, 1024, 2);
-    case(b"il", il, 0, 1, 0, 1024, 2);
-    case(b"LI", upper, 0, 1, 0, 1024, 2);
-    case(b"lx, budget 0", lx, 0, 1, 0, 0, 2);
+    case("lf", lf, 0, 1, 0, 1024, 2);
+    case("lh", lh, 0, 1, 0, 1024, 2);
+    case("li", li, 0, 1, 0, 1024, 2);
+    case("lx", lx, 0, 1, 0, 1024, 2);
+    case("il", il, 0, 1, 0, 1024, 2);
+    case("LI", upper, 0, 1, 0, 1024, 2);
+    case("lx, budget 0", lx, 0, 1, 0, 0, 2);
 }
 
 fn entries() {
@@ -150,18 +133,18 @@ fn entries() {
     let small = b"\xf8\xff\xff\xffli\x02\x00\x10\x00\x00\x00\x20\x00\x00\x00";
     let large = b"\x00\x00\x00\x80li\x02\x00\x10\x00\x00\x00\x20\x00\x00\x00";
     let free = b"\x01\x00\x00\x00li\x02\x00\x10\x00\x00\x00\x20\x00\x00\x00";
-    case(b"li of 2 entries in 16 bytes", li, 0, 1, 0, 1024, 3);
-    case(b"li of 2 entries in 15 bytes", li_cut, 0, 1, 0, 1024, 3);
-    case(b"li of 3 entries in 16 bytes", li_three, 0, 1, 0, 1024, 3);
-    case(b"li of 0 entries in 8 bytes", li_none, 0, 1, 0, 1024, 3);
-    case(b"lf of 1 entry in 16 bytes", lf, 0, 1, 0, 1024, 3);
-    case(b"lf of 1 entry in 15 bytes", lf_cut, 0, 1, 0, 1024, 3);
-    case(b"lh of 1 entry in 15 bytes", lh_cut, 0, 1, 0, 1024, 3);
-    case(b"ri of 0 entries in 8 bytes", ri_none, 0, 1, 0, 1024, 3);
-    case(b"ri of 1 entry in 11 bytes", ri_cut, 0, 1, 0, 1024, 3);
-    case(b"size word for the header only", small, 0, 1, 0, 1024, 3);
-    case(b"size word past the image", large, 0, 1, 0, 1024, 3);
-    case(b"size word 1", free, 0, 1, 0, 1024, 3);
+    case("li of 2 entries in 16 bytes", li, 0, 1, 0, 1024, 3);
+    case("li of 2 entries in 15 bytes", li_cut, 0, 1, 0, 1024, 3);
+    case("li of 3 entries in 16 bytes", li_three, 0, 1, 0, 1024, 3);
+    case("li of 0 entries in 8 bytes", li_none, 0, 1, 0, 1024, 3);
+    case("lf of 1 entry in 16 bytes", lf, 0, 1, 0, 1024, 3);
+    case("lf of 1 entry in 15 bytes", lf_cut, 0, 1, 0, 1024, 3);
+    case("lh of 1 entry in 15 bytes", lh_cut, 0, 1, 0, 1024, 3);
+    case("ri of 0 entries in 8 bytes", ri_none, 0, 1, 0, 1024, 3);
+    case("ri of 1 entry in 11 bytes", ri_cut, 0, 1, 0, 1024, 3);
+    case("size word for the header only", small, 0, 1, 0, 1024, 3);
+    case("size word past the image", large, 0, 1, 0, 1024, 3);
+    case("size word 1", free, 0, 1, 0, 1024, 3);
 }
 
 // Entries FFFFFFEF and FFFFFFF0, in lists at 16.
@@ -170,11 +153,11 @@ fn sums() {
         b"\x00\x00\x00\x00\x00\x00\x00\x00\x00\x00\x00\x00\x00\x00\x00\x00\x00\x00\x00\x00lh\x02\x00\xef\xff\xff\xff\x01\x01\x01\x01\xf0\xff\xff\xff\x02\x02\x02\x02";
     let li =
         b"\x00\x00\x00\x00\x00\x00\x00\x00\x00\x00\x00\x00\x00\x00\x00\x00\x00\x00\x00\x00li\x02\x00\xf0\xff\xff\xff\xef\xff\xff\xff";
-    case(b"lh, base 16", lh, 16, 1, 0, 1024, 2);
-    case(b"lh, base 0", lh, 0, 1, 16, 1024, 2);
-    case(b"li, base 16", li, 16, 1, 0, 1024, 2);
-    case(b"li, base 16, 1 place", li, 16, 1, 0, 1024, 1);
-    case(b"li, base 16, no place", li, 16, 1, 0, 1024, 0);
+    case("lh, base 16", lh, 16, 1, 0, 1024, 2);
+    case("lh, base 0", lh, 0, 1, 16, 1024, 2);
+    case("li, base 16", li, 16, 1, 0, 1024, 2);
+    case("li, base 16, 1 place", li, 16, 1, 0, 1024, 1);
+    case("li, base 16, no place", li, 16, 1, 0, 1024, 0);
 }
 
 // Places: exactly enough, one fewer, none, one more.
@@ -183,13 +166,13 @@ fn rooms() {
     let empty = b"\x00\x00\x00\x00li\x00\x00";
     let later =
         b"\x00\x00\x00\x00ri\x02\x00\x10\x00\x00\x00\x00\x01\x00\x00\x00\x00\x00\x00li\x02\x00\x05\x00\x00\x00\x06\x00\x00\x00";
-    case(b"2 offsets, 3 places", li, 0, 1, 0, 1024, 3);
-    case(b"2 offsets, 2 places", li, 0, 1, 0, 1024, 2);
-    case(b"2 offsets, 1 place", li, 0, 1, 0, 1024, 1);
-    case(b"2 offsets, no place", li, 0, 1, 0, 1024, 0);
-    case(b"no offset, no place", empty, 0, 1, 0, 1024, 0);
+    case("2 offsets, 3 places", li, 0, 1, 0, 1024, 3);
+    case("2 offsets, 2 places", li, 0, 1, 0, 1024, 2);
+    case("2 offsets, 1 place", li, 0, 1, 0, 1024, 1);
+    case("2 offsets, no place", li, 0, 1, 0, 1024, 0);
+    case("no offset, no place", empty, 0, 1, 0, 1024, 0);
     case(
-        b"2 offsets then a list outside, 3 places",
+        "2 offsets then a list outside, 3 places",
         later,
         0,
         1,
@@ -198,7 +181,7 @@ fn rooms() {
         3,
     );
     case(
-        b"2 offsets then a list outside, 1 place",
+        "2 offsets then a list outside, 1 place",
         later,
         0,
         1,
@@ -216,18 +199,18 @@ fn levels() {
     let far =
         b"\x00\x00\x00\x00ri\x01\x00\x0c\x00\x00\x00\x00\x00\x00\x00ri\x01\x00\x18\x00\x00\x00\x00\x00\x00\x00ri\x01\x00\x24\x00\x00\x00\x00\x00\x00\x00ri\x01\x00\x30\x00\x00\x00\x00\x00\x00\x00ri\x01\x00\x3c\x00\x00\x00\x00\x00\x00\x00ri\x01\x00\x48\x00\x00\x00\x00\x00\x00\x00ri\x01\x00\x54\x00\x00\x00\x00\x00\x00\x00ri\x01\x00\xe8\x03\x00\x00";
     let itself = b"\x00\x00\x00\x00ri\x01\x00\x00\x00\x00\x00";
-    case(b"eight levels", chain, 0, 1, 12, 1024, 2);
-    case(b"nine levels", chain, 0, 1, 0, 1024, 2);
-    case(b"eight levels, budget 8", chain, 0, 1, 12, 8, 2);
-    case(b"eight levels, budget 7", chain, 0, 1, 12, 7, 2);
-    case(b"nine levels, budget 8", chain, 0, 1, 0, 8, 2);
-    case(b"nine levels, budget 7", chain, 0, 1, 0, 7, 2);
-    case(b"nine levels, the ninth outside", far, 0, 1, 0, 8, 2);
-    case(b"eight levels, the eighth outside", far, 0, 1, 12, 8, 2);
-    case(b"ri naming itself, budget 9", itself, 0, 1, 0, 9, 2);
-    case(b"ri naming itself, budget 8", itself, 0, 1, 0, 8, 2);
-    case(b"ri naming itself, budget 7", itself, 0, 1, 0, 7, 2);
-    case(b"ri naming itself, budget 0", itself, 0, 1, 0, 0, 2);
+    case("eight levels", chain, 0, 1, 12, 1024, 2);
+    case("nine levels", chain, 0, 1, 0, 1024, 2);
+    case("eight levels, budget 8", chain, 0, 1, 12, 8, 2);
+    case("eight levels, budget 7", chain, 0, 1, 12, 7, 2);
+    case("nine levels, budget 8", chain, 0, 1, 0, 8, 2);
+    case("nine levels, budget 7", chain, 0, 1, 0, 7, 2);
+    case("nine levels, the ninth outside", far, 0, 1, 0, 8, 2);
+    case("eight levels, the eighth outside", far, 0, 1, 12, 8, 2);
+    case("ri naming itself, budget 9", itself, 0, 1, 0, 9, 2);
+    case("ri naming itself, budget 8", itself, 0, 1, 0, 8, 2);
+    case("ri naming itself, budget 7", itself, 0, 1, 0, 7, 2);
+    case("ri naming itself, budget 0", itself, 0, 1, 0, 0, 2);
 }
 
 // `ri` at 0 naming 20, 32, 20; `li` at 20 with the entry 1; `ri` at 32 naming 48 and 60; `li` at 48 and 60 with the entries 2
@@ -235,15 +218,15 @@ fn levels() {
 fn order() {
     let many =
         b"\x00\x00\x00\x00ri\x03\x00\x14\x00\x00\x00\x20\x00\x00\x00\x14\x00\x00\x00\x00\x00\x00\x00li\x01\x00\x01\x00\x00\x00\x00\x00\x00\x00ri\x02\x00\x30\x00\x00\x00\x3c\x00\x00\x00\x00\x00\x00\x00li\x01\x00\x02\x00\x00\x00\x00\x00\x00\x00li\x01\x00\x03\x00\x00\x00\x00\x00\x00\x00lx\x00\x00\x00\x00\x00\x00ri\x03\x00\x14\x00\x00\x00\x48\x00\x00\x00\xe8\x03\x00\x00\x00\x00\x00\x00ri\x02\x00\xe8\x03\x00\x00\x48\x00\x00\x00";
-    case(b"depth first, a list twice", many, 0, 1, 0, 1024, 5);
-    case(b"the same, budget 6", many, 0, 1, 0, 6, 5);
-    case(b"the same, budget 5", many, 0, 1, 0, 5, 5);
-    case(b"the same, budget 3", many, 0, 1, 0, 3, 5);
-    case(b"a leaf, an unknown kind, outside", many, 0, 1, 80, 1024, 5);
-    case(b"the same, budget 2", many, 0, 1, 80, 2, 5);
-    case(b"the same, budget 3", many, 0, 1, 80, 3, 5);
-    case(b"outside, an unknown kind", many, 0, 1, 100, 1024, 5);
-    case(b"the same, budget 1", many, 0, 1, 100, 1, 5);
+    case("depth first, a list twice", many, 0, 1, 0, 1024, 5);
+    case("the same, budget 6", many, 0, 1, 0, 6, 5);
+    case("the same, budget 5", many, 0, 1, 0, 5, 5);
+    case("the same, budget 3", many, 0, 1, 0, 3, 5);
+    case("a leaf, an unknown kind, outside", many, 0, 1, 80, 1024, 5);
+    case("the same, budget 2", many, 0, 1, 80, 2, 5);
+    case("the same, budget 3", many, 0, 1, 80, 3, 5);
+    case("outside, an unknown kind", many, 0, 1, 100, 1024, 5);
+    case("the same, budget 1", many, 0, 1, 100, 1, 5);
 }
 
 // `li` at 0 with the entry 9, and `ri` at 12 that names it 65,535 times: its entries are all 0.
@@ -258,16 +241,21 @@ fn many_lists() {
     image[18] = 255;
     image[19] = 255;
     let mut out = [7u32; 65535];
-    let a = sub_key_walk::sub_keys(&image, 0, 1, 12, 65536, &mut out);
-    answer(b"one leaf 65535 times, budget 65536", a);
-    io::write_all(1, b"\n");
-    let b = sub_key_walk::sub_keys(&image, 0, 1, 12, 65535, &mut out);
-    answer(b"one leaf 65535 times, budget 65535", b);
-    io::write_all(1, b"\n");
-    let mut none = [7u32; 0];
-    let c = sub_key_walk::sub_keys(&image, 0, 1, 12, 65536, &mut none);
-    answer(b"one leaf 65535 times, budget 65536, no place", c);
-    io::write_all(1, b"\n");
+    answer(
+        "one leaf 65535 times, budget 65536",
+        sub_key_walk::sub_keys(&image, 0, 1, 12, 65536, &mut out),
+    );
+    say!("\n");
+    answer(
+        "one leaf 65535 times, budget 65535",
+        sub_key_walk::sub_keys(&image, 0, 1, 12, 65535, &mut out),
+    );
+    say!("\n");
+    answer(
+        "one leaf 65535 times, budget 65536, no place",
+        sub_key_walk::sub_keys(&image, 0, 1, 12, 65536, &mut []),
+    );
+    say!("\n");
 }
 
 fn main() {

@@ -5,3 +5,4 @@ pub mod Papers
 pub mod SizeWord
 pub mod Strict
 pub mod Profiles
+pub mod ListKinds

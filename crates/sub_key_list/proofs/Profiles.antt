@@ -17,9 +17,10 @@ use Rattle.sub_key_list.specs.Lists.{LF, LH, LI, RI, Listed, kind_at, list_at, l
 use Rattle.sub_key_list.specs.Strict.{least_minor, permitted, ri_under_ri, barred, own_cell, list_bytes, strict_checks, strict_at}
 use Rattle.sub_key_list.specs.Profiles.{Rule, Met, Added, OneList}
 use Rattle.sub_key_list.specs.declared.SubKeyList.{SubKeyList}
-use Rattle.sub_key_list.specs.declared.SubKeyList.TheVariants.{Refused}
 use Rattle.sub_key_list.proofs.Papers.{paper_injective}
 use Rattle.sub_key_list.proofs.Strict.{strict-refused, strict_read}
+use Rattle.std.specs.Prelude.{Err}
+use Rattle.std.specs.declared.result.Result.{Result}
 
 pub false_true : false ≡ true → ⊥
 false_true e = let z : ◌≡◌ {A = ℕ} 0 1 = cc in absurd (omega arith)
@@ -145,7 +146,7 @@ module _ (s : List ℕ) (minor : ℕ) (named : Bool) (p : ℕ) where
 
 -- ---- of the answers themselves
 
-pub one_list : (s : List ℕ) (minor : ℕ) (named : Bool) (p : ℕ) (a o : SubKeyList) → list_paper a ≡ strict_at s minor named p → list_paper o ≡ list_at s p
+pub one_list : (s : List ℕ) (minor : ℕ) (named : Bool) (p : ℕ) (a o : (Result SubKeyList Refusal)) → list_paper a ≡ strict_at s minor named p → list_paper o ≡ list_at s p
     → OneList s minor named p a o
 one_list s minor named p a o x y = record {
   accepts = λ l. (λ e. let w = accepted s minor named p l (sym x ∙ e) in (y ∙ w.0, w.1), λ w. x ∙ accept s minor named p l (sym y ∙ w.0) w.1);
@@ -153,6 +154,6 @@ one_list s minor named p a o x y = record {
   keeps = λ f e. paper_injective a o (x ∙ strict-refused s minor named p (sym y ∙ ap list_paper e) ∙ ap list_paper (sym e));
 }
   where
-    go : (f : Refusal) → a ≡ Refused f → Either s minor named p → (o ≡ a) ⊎ Added p (told f)
+    go : (f : Refusal) → a ≡ Err f → Either s minor named p → (o ≡ a) ⊎ Added p (told f)
     go f e (alike q) = inl (paper_injective o a (y ∙ sym q ∙ sym x))
     go f e (added {t} d q) = inr (subst (Added p) (same-told (sym q ∙ sym x ∙ ap list_paper e)) d)

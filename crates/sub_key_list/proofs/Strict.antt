@@ -14,13 +14,14 @@ use Rattle.words.specs.Paper.{Told, success, refused, by, and_then}
 use Rattle.words.proofs.Papers.{refused-success}
 use Rattle.cell.specs.Cells.{magnitude_at, allocated_at, bytes_left, size_at, cell_at, cell_paper}
 use Rattle.cell.specs.declared.CellSize.{CellSize}
-use Rattle.cell.specs.declared.CellAnswer.{CellAnswer}
-use Rattle.cell.specs.declared.CellAnswer.TheVariants.{Held, TooSmall}
-use Rattle.cell.specs.declared.CellAnswer.TheVariants as answers
+use Rattle.cell.specs.declared.Fit.TheVariants.{Held, TooSmall}
 use Rattle.words.specs.declared.Refusal.{Refusal}
 use Rattle.cell.proofs.Exactly.{exactly, held_reads}
 use Rattle.sub_key_list.specs.Lists.{entry_size, Listed, kind_at, count_at, list_at}
 use Rattle.sub_key_list.specs.Strict.{barred, own_cell, strict_checks, strict_at}
+use Rattle.std.specs.Prelude.{Ok}
+use Rattle.std.specs.declared.result.Result.{Result}
+use Rattle.cell.specs.declared.Fit.{Fit}
 
 -- ---- a list's own cell
 
@@ -37,9 +38,9 @@ own_past true true c x = refl
 own_past true false c x = rw x
 own_past false b c x = refl
 
-module _ (s : List ℕ) (p needed : ℕ) {a : CellAnswer} (q : cell_paper a ≡ cell_at s p needed) where
+module _ (s : List ℕ) (p needed : ℕ) {a : (Result Fit Refusal)} (q : cell_paper a ≡ cell_at s p needed) where
   -- a cell with all these bytes: its own where it is allocated
-  pub own_held : {z : CellSize} → a ≡ Held z → z.allocated ≡ own_cell s p needed
+  pub own_held : {z : CellSize} → a ≡ Ok (Held z) → z.allocated ≡ own_cell s p needed
   unfolding own_cell
   own_held {z} e =
       let r = held_reads s p needed a q e in
@@ -50,7 +51,7 @@ module _ (s : List ℕ) (p needed : ℕ) {a : CellAnswer} (q : cell_paper a ≡ 
       ∙ sym (own_all (allocated_at s p) _ _ (le-ltb (magnitude_at s p) needed (omega arith)) (le-ltb (bytes_left s p) (magnitude_at s p) (omega arith)))
 
   -- every other answer of a cell whose size word is there
-  pub own_none : p + 4 ≤ length s → (a ≡ Held (size_at s p) → ⊥) → false ≡ own_cell s p needed
+  pub own_none : p + 4 ≤ length s → (a ≡ Ok (Held (size_at s p)) → ⊥) → false ≡ own_cell s p needed
   unfolding own_cell
   own_none h n = go (dec_le needed (magnitude_at s p)) (dec_le (p + magnitude_at s p) (length s))
     where
@@ -59,12 +60,9 @@ module _ (s : List ℕ) (p needed : ℕ) {a : CellAnswer} (q : cell_paper a ≡ 
       go (yes l) (no m) = sym (own_past (allocated_at s p) (ltb (magnitude_at s p) needed) (ltb (bytes_left s p) (magnitude_at s p)) (lt-ltb (bytes_left s p) (magnitude_at s p) (omega arith)))
       go (yes l) (yes m) = absurd (n ((exactly s p needed a q).held.1 ((h, m), l)))
 
--- and the other two are no such cell
+-- one that is too small is none that is held
 pub small_held : {y z : CellSize} → TooSmall y ≡ Held z → ⊥
 small_held e = let z : ◌≡◌ {A = ℕ} 0 1 = cc in absurd (omega arith)
-
-pub refused-held : {f : Refusal} {z : CellSize} → answers.Refused f ≡ Held z → ⊥
-refused-held e = let z : ◌≡◌ {A = ℕ} 0 1 = cc in absurd (omega arith)
 
 -- ---- what the strict profile asks of a list
 

@@ -2,9 +2,15 @@
 use Rattle.std.specs.Prelude.{ℕ, ◌+◌, ◌-◌, ◌*◌, ◌≤◌, ◌≡◌, List, cond, ltb, eqb, length}
 use Rattle.words.specs.Words.{byte_at, word16}
 use Rattle.words.specs.Refusals.{OUTSIDE, BAD_SIGN, CUT_SHORT}
-use Rattle.words.specs.Paper.{Paper, success, refused, by, told}
+use Rattle.words.specs.Paper.{Paper, success, refused, by, told, paper_of}
+use Rattle.std.specs.declared.option.Option.{Option}
+use Rattle.std.specs.declared.option.Option.TheVariants.{Some, None}
+use Rattle.sub_key_list.specs.declared.Kind.{Kind}
+use Rattle.sub_key_list.specs.declared.Kind.TheVariants.{Lf, Lh, Li, Ri}
 use Rattle.sub_key_list.specs.declared.SubKeyList.{SubKeyList}
-use Rattle.sub_key_list.specs.declared.SubKeyList.TheVariants.{Leaf, Index, Refused}
+use Rattle.sub_key_list.specs.declared.SubKeyList.TheVariants.{Leaf, Index}
+use Rattle.std.specs.declared.result.Result.{Result}
+use Rattle.words.specs.declared.Refusal.{Refusal}
 
 -- ---- the kinds: "bytes 4 and 5 .. `ri`, `lf`, `lh` or `li`"; each is the word of its two letters
 
@@ -27,6 +33,18 @@ entry_size kind =
     (cond (eqb kind LH) 8
     (cond (eqb kind LI) 4
     (cond (eqb kind RI) 4 0)))
+
+-- the code's name for each
+abbrev pub word_of : Kind → ℕ
+word_of Lf = LF
+word_of Lh = LH
+word_of Li = LI
+word_of Ri = RI
+
+-- the name that a word has; every other word is of an unknown kind
+abbrev pub KindOf : Option Kind → ℕ → Type 0
+KindOf (Some k) word = word_of k ≡ word
+KindOf None word = entry_size word ≡ 0
 
 -- ---- a list, by its kind
 
@@ -63,7 +81,14 @@ pub record SameBehind (s t : List ℕ) (p : ℕ) : Type 0 where
   pub bytes : (i : ℕ) → p + 4 ≤ i → byte_at s i ≡ byte_at t i
 
 -- what document 01 says of the code's answer
-abbrev pub list_paper : SubKeyList → Paper Listed
-list_paper (Leaf l) = success (leaf l.signature l.entry_size l.count)
-list_paper (Index l) = success (index l.count)
-list_paper (Refused f) = refused (told f)
+abbrev pub listed_of : SubKeyList → Listed
+listed_of (Leaf l) = leaf (word_of l.kind) l.entry_size l.count
+listed_of (Index l) = index l.count
+
+-- and which kind a list is
+abbrev pub kind_of : SubKeyList → Kind
+kind_of (Leaf l) = l.kind
+kind_of (Index l) = Ri
+
+abbrev pub list_paper : Result SubKeyList Refusal → Paper Listed
+list_paper = paper_of listed_of told

@@ -7,7 +7,8 @@ use Rattle.cell.specs.Cells.{magnitude_at, allocated_at}
 use Rattle.sub_key_list.specs.Lists.{LF, LH, LI, RI, Listed, kind_at, list_paper}
 use Rattle.sub_key_list.specs.Strict.{least_minor, permitted, list_bytes}
 use Rattle.sub_key_list.specs.declared.SubKeyList.{SubKeyList}
-use Rattle.sub_key_list.specs.declared.SubKeyList.TheVariants.{Refused}
+use Rattle.std.specs.Prelude.{Err}
+use Rattle.std.specs.declared.result.Result.{Result}
 
 -- "The permitted kinds are a rule over the minor version, proved once for all kinds": exactly from its least version on, whatever the
 -- kind. The four kinds read it off the table.
@@ -32,10 +33,10 @@ abbrev pub Added : ℕ → Told → Type 0
 Added p t = (t ≡ by NOT_PERMITTED 0) ⊎ (t ≡ by BAD_SIZE p)
 
 -- of any answer `a` of `strict_list` and any answer `o` of `read_list` on one image and position
-pub record OneList (s : List ℕ) (minor : ℕ) (named : Bool) (p : ℕ) (a o : SubKeyList) : Type 0 where
+pub record OneList (s : List ℕ) (minor : ℕ) (named : Bool) (p : ℕ) (a o : (Result SubKeyList Refusal)) : Type 0 where
   -- what strict accepts is what the ordinary reading answers, and all that it asks is met; and the other way round
   pub accepts : (l : Listed) → (list_paper a ≡ success l) ↔ ((list_paper o ≡ success l) × Met s minor named p)
   -- it refuses as the ordinary reading does, or by 20 or 3
-  pub refuses : (f : Refusal) → a ≡ Refused f → (o ≡ a) ⊎ Added p (told f)
+  pub refuses : (f : Refusal) → a ≡ Err f → (o ≡ a) ⊎ Added p (told f)
   -- what the ordinary reading refuses, it refuses alike
-  pub keeps : (f : Refusal) → o ≡ Refused f → a ≡ o
+  pub keeps : (f : Refusal) → o ≡ Err f → a ≡ o

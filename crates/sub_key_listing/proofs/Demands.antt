@@ -15,8 +15,6 @@ use Rattle.words.proofs.Papers.{success-refused, refused-success, same-success, 
 use Rattle.words.specs.Buffers.{in_room}
 use Rattle.words.proofs.Buffers.{room_full, room_fits, room_refused, room_success, untouched, filled}
 use Rattle.sub_key_walk.specs.declared.Counts.{Counts}
-use Rattle.sub_key_walk.specs.declared.WalkAnswer.{WalkAnswer}
-use Rattle.sub_key_walk.specs.declared.WalkAnswer.TheVariants as walk
 use Rattle.sub_key_walk.specs.Judge.{counts}
 use Rattle.sub_key_walk.specs.Answers.{measured, full_of, walk_told, walk_paper}
 use Rattle.sub_key_walk.proofs.Papers.{paper_injective}
@@ -29,15 +27,15 @@ use Rattle.key_in_place.proofs.Never.{Not, walk_never}
 use Rattle.sub_key_listing.specs.Listing.{same, wellformed}
 use Rattle.sub_key_listing.specs.Answers.{offsets_of, right_listing, compared, checked_of, check_paper, written_of, full_listing, write_paper, writing_of, WriteAnswered}
 use Rattle.sub_key_listing.specs.Demands.{TheWalks, Checked, Wrote}
-use Rattle.sub_key_listing.specs.declared.CheckAnswer.{CheckAnswer}
-use Rattle.sub_key_listing.specs.declared.CheckAnswer.TheVariants.{Accepted, Refused}
 use Rattle.sub_key_listing.specs.declared.Written.{Written}
-use Rattle.sub_key_listing.specs.declared.WriteAnswer.{WriteAnswer}
-use Rattle.sub_key_listing.specs.declared.WriteAnswer.TheVariants as write
 use Rattle.sub_key_listing.proofs.Rows.{same_true, same_is}
 use Rattle.sub_key_listing.proofs.Wellformed.{listing_length, listing_formed, listing_bytes, well_formed}
 use Rattle.sub_key_listing.proofs.Answers.{kept_counted, kept_number, compared_same, compared_other, checked_malformed, checked_formed}
 use Rattle.sub_key_listing.proofs.Papers.{check_injective, write_injective}
+use Rattle.std.specs.Prelude.{Ok, Err}
+use Rattle.std.specs.declared.result.Result.{Result}
+use Rattle.sub_key_walk.specs.declared.WalkRefusal.{WalkRefusal}
+use Rattle.sub_key_listing.specs.declared.WriteRefusal.{WriteRefusal}
 
 -- ---- no walk is refused by 22 or by 23
 
@@ -122,23 +120,23 @@ module _ (s : List ℕ) (key : KeyNode) (budget : ℕ) (listing : List ℕ) wher
       go false e = absurd (let z : BAD_RECORD ≡ NOT_THE_LIST = ap (λ (t : Told). t.number) (same-told (sym (by_form false e) ∙ q)) in omega arith)
 
 -- of any answers for an image and a listing, which are bytes
-module _ (s : List ℕ) (bytes : Bytes s) (key : KeyNode) (budget : ℕ) (w : WalkAnswer) (k : walk_paper w ≡ measured_of s key budget) where
-  read : (t : Counts) → measured_of s key budget ≡ success t → w ≡ walk.Read t
-  read t q = paper_injective w (walk.Read t) (k ∙ q)
+module _ (s : List ℕ) (bytes : Bytes s) (key : KeyNode) (budget : ℕ) (w : (Result Counts WalkRefusal)) (k : walk_paper w ≡ measured_of s key budget) where
+  read : (t : Counts) → measured_of s key budget ≡ success t → w ≡ Ok t
+  read t q = paper_injective w (Ok t) (k ∙ q)
 
-  module _ (listing : List ℕ) (b : Bytes listing) (r : CheckAnswer) (x : check_paper r ≡ checked_of s key budget listing) where
+  module _ (listing : List ℕ) (b : Bytes listing) (r : (Result Counts WalkRefusal)) (x : check_paper r ≡ checked_of s key budget listing) where
     pub checked : Checked s key budget listing w r
     checked = record {
       accepted = λ t. (
         λ e. let p = accepted_only s key budget listing t (sym x ∙ ap check_paper e) in (read t p.0, p.1),
-        λ e. check_injective r (Accepted t) (x ∙ right_accepted s bytes key budget listing b e.1 t (sym k ∙ ap walk_paper e.0)),
+        λ e. check_injective r (Ok t) (x ∙ right_accepted s bytes key budget listing b e.1 t (sym k ∙ ap walk_paper e.0)),
       );
       bad_record = (
         λ e f. formed_not_22 s key budget listing ((well_formed listing b).1 f) (sym x ∙ e),
         λ h. x ∙ checked_malformed s key budget listing (test_false (wellformed listing) (λ t. h ((well_formed listing b).0 t))),
       );
       walk_refused = λ f g e.
-          check_injective r (Refused g)
+          check_injective r (Err g)
           (x ∙ checked_formed s key budget listing ((well_formed listing b).1 f) ∙ by-refused (compared listing (right_listing s key)) (sym k ∙ ap walk_paper e));
       not_the_list = (
         λ e. let p = other_only s key budget listing (sym x ∙ e) in ((well_formed listing b).0 p.0, (p.1.0, read p.1.0 p.1.1), p.2),
@@ -151,23 +149,23 @@ module _ (s : List ℕ) (bytes : Bytes s) (key : KeyNode) (budget : ℕ) (w : Wa
 
   -- ---- writing
 
-  module _ (old new : List ℕ) (r : WriteAnswer) (x : WriteAnswered s key budget old r new) where
-    right_is : (t : Counts) → w ≡ walk.Read t → writing_of s key budget (length old) ≡ in_room full_listing (length old) (success (written_of t))
+  module _ (old new : List ℕ) (r : (Result Written WriteRefusal)) (x : WriteAnswered s key budget old r new) where
+    right_is : (t : Counts) → w ≡ Ok t → writing_of s key budget (length old) ≡ in_room full_listing (length old) (success (written_of t))
     right_is t e = ap (in_room full_listing (length old)) (on-success written_of (sym k ∙ ap walk_paper e))
 
     -- a success is one of the walk, and fits
-    success_of : (v : Written) → r ≡ write.Written v → (t : Counts) × (measured_of s key budget ≡ success t) × (written_of t ≡ v)
+    success_of : (v : Written) → r ≡ Ok v → (t : Counts) × (measured_of s key budget ≡ success t) × (written_of t ≡ v)
     success_of v e =
         on_success_of written_of (measured_of s key budget) (room_success full_listing (length old) (on_success written_of (measured_of s key budget)) v (sym x.answer ∙ ap write_paper e)).0
 
-    whole_length : (v : Written) → r ≡ write.Written v → v.bytes ≡ length (right_listing s key)
+    whole_length : (v : Written) → r ≡ Ok v → v.bytes ≡ length (right_listing s key)
     whole_length v e =
         let p = success_of v e in
         let n = kept_number s key budget p.0 p.1 in
         let m = ap (λ (u : Written). u.bytes) p.2 in
         omega (arith, listing_length key.base key.position (offsets_of s key))
 
-    whole_buffer : (v : Written) → r ≡ write.Written v → new ≡ right_listing s key ++ drop (length (right_listing s key)) old
+    whole_buffer : (v : Written) → r ≡ Ok v → new ≡ right_listing s key ++ drop (length (right_listing s key)) old
     whole_buffer v e = filled x (ap write_paper e)
 
     pub wrote : Wrote s key budget old w r new
@@ -175,13 +173,13 @@ module _ (s : List ℕ) (bytes : Bytes s) (key : KeyNode) (budget : ℕ) (w : Wa
       walk_refused = λ f e.
           x.answer ∙ ap (in_room full_listing (length old)) (on-refused written_of (sym k ∙ ap walk_paper e)) ∙ room_refused full_listing (length old) (walk_told f);
       no_room = λ t e h. x.answer ∙ right_is t e ∙ room_full full_listing (length old) (written_of t) h;
-      room = λ t e h. write_injective r (write.Written (written_of t)) (x.answer ∙ right_is t e ∙ room_fits full_listing (length old) (written_of t) h);
+      room = λ t e h. write_injective r (Ok (written_of t)) (x.answer ∙ right_is t e ∙ room_fits full_listing (length old) (written_of t) h);
       untouched = λ f e. untouched x (ap write_paper e);
       written = λ v e. (whole_length v e, whole_buffer v e ∙ ap (λ (n : ℕ). right_listing s key ++ drop n old) (sym (whole_length v e)));
       accepted = λ v e c y.
           let p = success_of v e in
           let l = ap (take v.bytes) (whole_buffer v e) ∙ take_at (right_listing s key) (drop (length (right_listing s key)) old) v.bytes (sym (whole_length v e)) in
           let q = y ∙ ap (checked_of s key budget) l ∙ right_accepted s bytes key budget (right_listing s key) (listing_bytes key.base key.position (offsets_of s key)) refl p.0 p.1 in
-          check_injective c (Accepted (counts v.kept v.lists v.entries v.dropped))
+          check_injective c (Ok (counts v.kept v.lists v.entries v.dropped))
           (q ∙ ap (λ (u : Written). success (counts u.kept u.lists u.entries u.dropped)) p.2);
     }

@@ -1,21 +1,16 @@
--- The use of a walk that writes records. Assumes nothing.
-use mathlib.Core.Path.{◌≡◌, refl, sym, ap, ◌∙◌}
-use mathlib.Core.List.{List, [], ◌++◌, append_assoc, append-nil}
+-- A record that is written. Assumes nothing.
+use mathlib.Core.Path.{◌≡◌, sym, ap, subst, ◌∙◌}
+use mathlib.Core.List.{List, [], ◌∷◌, ◌++◌, append_assoc, append-nil}
 use mathlib.Core.Bool.{Bool}
-use Prim.Native.Nat.{ℕ, ◌+◌, ◌≤◌, ◌<◌}
+use Prim.Native.Nat.{ℕ, ◌+◌, ◌≤◌}
 use native.Mathlib.Omega.{arith}
 use lib.ListN.{length, length-append}
 use lib.Seq.{sets}
 use Rattle.writing.specs.Writing.{bytes_of, with_bytes, PutAt}
 use Rattle.writing.proofs.Writing.{bytes_length, with_none, with_sets, put-after}
-use Rattle.sub_key_list.specs.Leaves.{keep}
-use Rattle.sub_key_list.proofs.Leaves.{keep_kept, keep_dropped}
 use Rattle.sub_key_walk.specs.Walk.{Filled}
-use Rattle.sub_key_walk.proofs.Uses.{Use}
-use Rattle.sub_key_walk.proofs.Fills.{writing}
 use Rattle.sub_key_listing.specs.Listing.{OPENS, NAMES, opening, plain, named}
-use Rattle.sub_key_listing.specs.Steps.{Space}
-use Rattle.sub_key_listing.proofs.Rows.{plain-length, named-length, named-append, named_none}
+use Rattle.sub_key_listing.proofs.Rows.{plain-length, named-length}
 
 -- ---- one record
 
@@ -41,52 +36,34 @@ plain-put old at kind v h x y z =
     (append_assoc (bytes_of 4 6) (bytes_of 2 kind) (bytes_of 4 v)
     ∙ ap (λ (n : ℕ). bytes_of 4 (2 + n) ++ (bytes_of 2 kind ++ bytes_of 4 v)) (sym (bytes_length 4 v)))
 
-pub opening-put : (old : List ℕ) (base position : ℕ) → 18 ≤ length old → {q r t u : Bool} {one two three new : List ℕ}
-    → PutAt 4 14 0 old q one → PutAt 2 OPENS 4 one r two → PutAt 4 base 6 two t three → PutAt 8 position 10 three u new
+pub opening-put : (old : List ℕ) (base position : ℕ) → 18 ≤ length old → {k : ℕ} → k ≡ OPENS → {q r t u : Bool} {one two three new : List ℕ}
+    → PutAt 4 14 0 old q one → PutAt 2 k 4 one r two → PutAt 4 base 6 two t three → PutAt 8 position 10 three u new
     → new ≡ with_bytes old 0 (opening base position)
-opening-put old base position h x y z w =
+opening-put old base position h {k} opens {r = r} {one = one} {two = two} x put z w =
+    let y : PutAt 2 OPENS 4 one r two = subst (λ (n : ℕ). PutAt 2 n 4 one r two) opens put in
     let l = front_length old 0 14 OPENS (omega arith) x y in
-    let k : List ℕ = bytes_of 4 14 ++ bytes_of 2 OPENS in
+    let front : List ℕ = bytes_of 4 14 ++ bytes_of 2 OPENS in
     let c : length (bytes_of 4 base ++ bytes_of 8 position) ≡ 12 = omega (arith, length-append (bytes_of 4 base) (bytes_of 8 position), bytes_length 4 base, bytes_length 8 position) in
-    let m : length (k ++ bytes_of 4 base) ≡ 10 = omega (arith, length-append k (bytes_of 4 base), bytes_length 4 base) in
-    let three-is = put-after old 0 k z (front-put old 0 14 OPENS (omega arith) x y) (omega arith) (omega arith) in
-    put-after old 0 (k ++ bytes_of 4 base) w three-is (omega arith) (omega arith)
+    let m : length (front ++ bytes_of 4 base) ≡ 10 = omega (arith, length-append front (bytes_of 4 base), bytes_length 4 base) in
+    let three-is = put-after old 0 front z (front-put old 0 14 OPENS (omega arith) x y) (omega arith) (omega arith) in
+    put-after old 0 (front ++ bytes_of 4 base) w three-is (omega arith) (omega arith)
     ∙ ap (with_bytes old 0)
-    (append_assoc k (bytes_of 4 base) (bytes_of 8 position)
+    (append_assoc front (bytes_of 4 base) (bytes_of 8 position)
     ∙ append_assoc (bytes_of 4 14) (bytes_of 2 OPENS) (bytes_of 4 base ++ bytes_of 8 position)
     ∙ ap (λ (n : ℕ). bytes_of 4 (2 + n) ++ (bytes_of 2 OPENS ++ (bytes_of 4 base ++ bytes_of 8 position))) (sym c))
 
--- ---- the use: a record for each offset
+-- ---- the record of an offset
 
-abbrev pub records : ℕ → Use (List ℕ × ℕ)
-records places = writing places named named_none named-append
+module _ (v place : ℕ) (out : List ℕ) (r : place + length (named (v ∷ [])) ≤ length out) where
+  pub record_room : place + 10 ≤ length out
+  record_room = omega (arith, named-length (v ∷ []), r)
 
--- there is room for a row
-pub room_of : (ks out : List ℕ) (place : ℕ) → Space ks place out → (length out ≡ length out) × (place + length (named ks) ≤ length out)
-room_of ks out place h = (refl, omega (arith, named-length ks))
-
-pub space_of : (ks out : List ℕ) (place places : ℕ) → (length out ≡ places) × (place + length (named ks) ≤ places) → Space ks place out
-space_of ks out place places r =
-    let h = r.1 in
-    let e = r.0 in
-    omega (arith, named-length ks)
-
--- an entry that is kept, and one that is dropped
-module _ (v place : ℕ) (out : List ℕ) where
-  pub kept_room : v < 4294967296 → Space (keep v []) place out → place + 10 ≤ length out
-  kept_room h r = omega (arith, ap length (keep_kept v h), r)
-
-  pub put_kept : v < 4294967296 → Space (keep v []) place out → {new : List ℕ} → new ≡ with_bytes out place (plain NAMES v) → Filled (named (keep v [])) out place (place + 10) new
+  pub record_put : {new : List ℕ} → new ≡ with_bytes out place (plain NAMES v) → Filled (named (v ∷ [])) out place (place + 10) new
   unfolding named
-  put_kept h r e =
+  record_put e =
       let l = plain-length NAMES v in
-      let m = kept_room h r in
-      rw (keep_kept v h)
-      (record {
+      let m = record_room in
+      record {
         next = omega (arith, length-append (plain NAMES v) [], l);
         written = e ∙ with_sets out place (plain NAMES v) (omega arith) ∙ ap (λ (ks : List ℕ). sets out place ks) (sym (append-nil (plain NAMES v)));
-      })
-
-  pub put_dropped : 4294967296 ≤ v → Filled (named (keep v [])) out place place out
-  unfolding named
-  put_dropped h = rw (keep_dropped v h) (record { next = omega arith; written = refl })
+      }

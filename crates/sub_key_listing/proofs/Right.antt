@@ -1,11 +1,12 @@
 -- The listing of a key record: its offsets are those of the walk, and bytes are it exactly where the code's tests say so. Assumes nothing.
 use mathlib.Core.Path.{◌≡◌, refl, sym, ap, ◌∙◌}
 use mathlib.Core.List.{List, [], ◌∷◌, ◌++◌, append_assoc}
-use mathlib.Core.Bool.{Bool, true, false, not, cond, ◌&&◌, false≢true}
+use mathlib.Core.Bool.{Bool, true, false, cond, ◌&&◌}
 use Prim.Native.Nat.{ℕ, zero, suc, ◌+◌, ◌*◌, ◌≤◌, ◌<◌}
 use native.Mathlib.Omega.{arith}
-use borrow.Author.Tests.{eqb-true, eq-eqb, ne_eqb, ltb-true}
+use borrow.Author.Tests.{eqb-true, eq-eqb, ltb-true}
 use lib.Dec.{eqb, ltb}
+use Rattle.std.specs.Prelude.{Option, Some, is_some}
 use lib.ListN.{length, get_or, length-append}
 use Rattle.words.specs.Words.{word32, word64}
 use Rattle.words.specs.Paper.{Paper, success, refused}
@@ -106,8 +107,8 @@ module _ (s : List ℕ) (key : KeyNode) (n : ℕ) (e : n ≡ length (offsets_of 
     pub agree_room : 28 + 10 * n ≤ length b → Space (walk s key) 18 b
     agree_room r = let l = ap length some in omega arith
 
-    pub agree_some : {p : ℕ} → p ≡ agreed b (walk s key) 18 → not (eqb p 0) ≡ agrees b (offsets_of s key)
-    agree_some q = ap (λ (r : ℕ). not (eqb r 0)) q ∙ ap (agrees b) (sym some)
+    pub agree_some : {p : Option ℕ} → p ≡ agreed b (walk s key) (Some 18) → is_some p ≡ agrees b (offsets_of s key)
+    agree_some q = ap is_some q ∙ ap (agrees b) (sym some)
 
 -- ---- and written
 
@@ -116,8 +117,11 @@ module _ (s : List ℕ) (key : KeyNode) (n : ℕ) (e : n ≡ length (offsets_of 
   unfolding named
   put-none z = rw (no_row (offsets_of s key) (sym e ∙ z)) (record { next = omega arith; written = refl })
 
-  pub put_some : (n ≡ 0 → ⊥) → {r : ℕ} {new : List ℕ} → Filled (named (walk s key)) out 18 r new → Filled (named (offsets_of s key)) out 18 r new
-  put_some h f = rw (offsets_walk s key (omega arith)) f
+  pub put_room : (n ≡ 0 → ⊥) → 28 + 10 * n ≤ length out → 18 + length (named (walk s key)) ≤ length out
+  put_room h r = omega (arith, named-length (walk s key), agree_room s key n e out h r)
+
+  pub put_some : (n ≡ 0 → ⊥) → {r : ℕ} {new last : List ℕ} → Filled (named (walk s key)) out 18 r new → last ≡ new → Filled (named (offsets_of s key)) out 18 r last
+  put_some h f l = rw (offsets_walk s key (omega arith), l) f
 
 -- ---- bytes that are a listing: whether they are the one of a base, a position and offsets
 
@@ -141,11 +145,8 @@ module _ (b : List ℕ) (t : wellformed b ≡ true) (base position : ℕ) (os : 
           let h = both (eqb (word32 b 6) base) (eqb (word64 b 10) position) p.0 in
           let x = eqb-true (word32 b 6) base h.0 in
           let y = eqb-true (word64 b 10) position h.1 in
-          let z = agreed-row b os 18 (turned p.1) in
+          let z = agreed-row b os 18 p.1 in
           same_is (made ∙ (λ i. listing_of (x i) (y i) (z i)))
-        where
-          turned : not (eqb (agreed b os 18) 0) ≡ true → agreed b os 18 ≡ 0 → ⊥
-          turned g v = false≢true (sym (ap not (eq-eqb (agreed b os 18) 0 v)) ∙ g)
 
       back : same b (listing_of base position os) ≡ true → opens_with b base position && agrees b os ≡ true
       back q =
@@ -154,7 +155,7 @@ module _ (b : List ℕ) (t : wellformed b ≡ true) (base position : ℕ) (os : 
           (both_are
           (eq-eqb (word32 b 6) base (made_base b base position os e o.base_fits))
           (eq-eqb (word64 b 10) position (made_position b base position os e o.position_fits)))
-          (ap not (ne_eqb (agreed b os 18) 0 (row-agreed b os 18 (λ z. let y : ⊥ = omega arith in y) (made_offsets b base position os e f))))
+          (row-agreed b os 18 (made_offsets b base position os e f))
 
 -- ---- a listing written piece by piece
 

@@ -61,15 +61,6 @@ unfolding named
 named-length [] = refl
 named-length (o ∷ os) = omega (arith, length-append (plain NAMES o) (named os), plain-length NAMES o, named-length os)
 
-pub named-append : (ks ls : List ℕ) → named (ks ++ ls) ≡ named ks ++ named ls
-unfolding named
-named-append [] ls = refl
-named-append (k ∷ ks) ls = ap (λ (r : List ℕ). plain NAMES k ++ r) (named-append ks ls) ∙ sym (append_assoc (plain NAMES k) (named ks) (named ls))
-
-pub named_none : named [] ≡ []
-unfolding named
-named_none = refl
-
 pub offsets_length : (b : List ℕ) (n at : ℕ) → length (offsets_in b n at) ≡ n
 unfolding offsets_in
 offsets_length b zero at = refl

@@ -1,19 +1,17 @@
 -- What the two functions promise: document 02, order 12, with document 01's rules on a lent buffer.
 use Rattle.std.specs.Prelude.{ℕ, List, cond, length}
 use Rattle.words.specs.Refusals.{BAD_RECORD, NOT_THE_LIST}
-use Rattle.words.specs.Paper.{Told, Paper, success, refused, by, tell, no_room_told, on_success, then_by}
+use Rattle.words.specs.Paper.{Told, Paper, success, refused, by, tell, no_room_told, number_of, paper_of, on_success, then_by}
 use Rattle.words.specs.Buffers.{in_room, Answered}
 use Rattle.sub_key_walk.specs.declared.Counts.{Counts}
 use Rattle.sub_key_walk.specs.Answers.{kept_by, walk_told}
 use Rattle.cell_key_node.specs.declared.KeyNode.{KeyNode}
 use Rattle.key_in_place.specs.Answers.{measured_of}
 use Rattle.sub_key_listing.specs.Listing.{listing_of, same, listing_size, wellformed}
-use Rattle.sub_key_listing.specs.declared.CheckAnswer.{CheckAnswer}
-use Rattle.sub_key_listing.specs.declared.CheckAnswer.TheVariants.{Accepted, Refused}
 use Rattle.sub_key_listing.specs.declared.Written.{Written}
 use Rattle.sub_key_listing.specs.declared.WriteRefusal.{WriteRefusal}
-use Rattle.sub_key_listing.specs.declared.WriteAnswer.{WriteAnswer}
-use Rattle.sub_key_listing.specs.declared.WriteAnswer.TheVariants as write
+use Rattle.std.specs.declared.result.Result.{Result}
+use Rattle.sub_key_walk.specs.declared.WalkRefusal.{WalkRefusal}
 
 -- the offsets of the walk from a key record, dropped ones left out
 abbrev pub offsets_of : List ℕ → KeyNode → List ℕ
@@ -36,9 +34,8 @@ checked_of s key budget listing =
     (then_by (measured_of s key budget) (compared listing (right_listing s key)))
     (refused (by BAD_RECORD 0))
 
-abbrev pub check_paper : CheckAnswer → Paper Counts
-check_paper (Accepted counts) = success counts
-check_paper (Refused f) = refused (walk_told f)
+abbrev pub check_paper : Result Counts WalkRefusal → Paper Counts
+check_paper = paper_of (λ st. st) walk_told
 
 -- ---- writing
 
@@ -52,16 +49,15 @@ abbrev pub full_listing : Written → Told
 full_listing w = no_room_told w.lists w.bytes w.entries w.dropped
 
 abbrev pub write_told : WriteRefusal → Told
-write_told f = tell f.number f.position f.lists f.bytes f.entries f.dropped
+write_told f = tell (number_of f.reason) f.position f.lists f.bytes f.entries f.dropped
 
-abbrev pub write_paper : WriteAnswer → Paper Written
-write_paper (write.Written w) = success w
-write_paper (write.Refused f) = refused (write_told f)
+abbrev pub write_paper : Result Written WriteRefusal → Paper Written
+write_paper = paper_of (λ w. w) write_told
 
 -- "On writing: the walk's own, with 9 where the listing does not fit"
 abbrev pub writing_of : List ℕ → KeyNode → ℕ → ℕ → Paper Written
 writing_of s key budget room = in_room full_listing room (on_success written_of (measured_of s key budget))
 
 -- what `write_listing` promises of its answer `r` and of the buffer, which held `old` and then holds `new`
-abbrev pub WriteAnswered : List ℕ → KeyNode → ℕ → List ℕ → WriteAnswer → List ℕ → Type 0
+abbrev pub WriteAnswered : List ℕ → KeyNode → ℕ → List ℕ → Result Written WriteRefusal → List ℕ → Type 0
 WriteAnswered s key budget old r new = Answered (write_paper r) (writing_of s key budget (length old)) (right_listing s key) old new

@@ -3,3 +3,4 @@ pub mod Answers
 pub mod Steps
 pub mod Demands
 pub mod Examples
+pub mod Uses

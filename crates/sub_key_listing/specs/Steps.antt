@@ -1,9 +1,18 @@
 -- What the private functions promise. Of use inside this crate only.
-use Rattle.std.specs.Prelude.{ℕ, zero, suc, ◌+◌, ◌*◌, ◌≤◌, ◌<◌, ◌≡◌, List, [], ◌∷◌, Bool, true, cond, not, ◌&&◌, eqb, length}
+use Prim.{Unit}
+use Rattle.std.specs.Prelude.{ℕ, zero, suc, ◌+◌, ◌*◌, ◌≤◌, ◌<◌, ◌≡◌, List, [], ◌∷◌, Bool, true, cond, ◌&&◌, eqb, length, Option, Some, None, is_some}
 use Rattle.words.specs.Words.{word16, word32, word64}
+use Rattle.sub_key_listing.specs.declared.Kind.{Kind}
+use Rattle.sub_key_listing.specs.declared.Kind.TheVariants as kinds
 use Rattle.sub_key_listing.specs.Listing.{OPENS, NAMES, CLOSES}
 
 -- ---- the frame of a listing
+
+-- the number of a kind of record
+abbrev pub number_of_kind : Kind → ℕ
+number_of_kind kinds.Opens = OPENS
+number_of_kind kinds.Names = NAMES
+number_of_kind kinds.Closes = CLOSES
 
 -- a record of so many bytes behind its length, and of a kind, begins here
 abbrev pub begins : List ℕ → ℕ → ℕ → ℕ → Bool
@@ -34,21 +43,27 @@ pub record Opens (bytes : List ℕ) (base position : ℕ) (r : Bool) : Type 0 wh
   pub base_fits : base < 4294967296
   pub position_fits : position < 18446744073709551616
 
--- the place behind a record, if there is one at that place and it holds this number; 0 if not
-unfoldable pub matched : List ℕ → ℕ → ℕ → ℕ
-matched bytes place k = cond (eqb place 0) 0 (cond (eqb (word32 bytes (place + 6)) k) (place + 10) 0)
+-- the place behind a record, if there is one at that place and it holds this number
+unfoldable pub matched : List ℕ → Option ℕ → ℕ → Option ℕ
+matched bytes None k = None
+matched bytes (Some place) k = cond (eqb (word32 bytes (place + 6)) k) (Some (place + 10)) None
 
 -- the same of a row, one behind another
-unfoldable pub agreed : List ℕ → List ℕ → ℕ → ℕ
+unfoldable pub agreed : List ℕ → List ℕ → Option ℕ → Option ℕ
 agreed bytes [] place = place
 agreed bytes (k ∷ ks) place = agreed bytes ks (matched bytes place k)
 
 -- a row of which every number stands in its record, from the first record behind an opening on
 abbrev pub agrees : List ℕ → List ℕ → Bool
-agrees bytes ks = not (eqb (agreed bytes ks 18) 0)
+agrees bytes ks = is_some (agreed bytes ks (Some 18))
 
 -- ---- room
 
 -- behind a place there are records for all of a row
 abbrev pub Space : List ℕ → ℕ → List ℕ → Type 0
 Space ks place bytes = place + 10 * length ks ≤ length bytes
+
+-- the same of a place that may be lost: then no room is asked for
+abbrev pub Ahead : List ℕ → Option ℕ → List ℕ → Type 0
+Ahead ks None bytes = Unit {0}
+Ahead ks (Some place) bytes = Space ks place bytes

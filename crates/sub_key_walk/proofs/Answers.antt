@@ -10,29 +10,28 @@ use lib.Dec.{ltb, eqb}
 use lib.ListN.{length, drop}
 use lib.Seq.{sets-eq}
 use Rattle.words.specs.Refusals.{TOO_MANY, BAD_BUDGET, BAD_SIGN}
-use Rattle.words.specs.Paper.{Paper, success, refused, by, no_room_told, on_success}
+use Rattle.words.specs.Paper.{Paper, success, refused, by, on_success}
 use Rattle.words.specs.Buffers.{in_room}
 use Rattle.words.specs.declared.Refusal.{Refusal}
 use Rattle.words.proofs.Papers.{success-refused, same-success}
 use Rattle.words.proofs.Buffers.{room_full, room_fits, room_refused, answered_refused, answered_success}
-use Rattle.sub_key_list.specs.Lists.{Listed, list_at, list_paper}
+use Rattle.sub_key_list.specs.Lists.{Listed, list_paper, leaf}
 use Rattle.sub_key_list.specs.Leaves.{leaf_of, leaf_kept, only_leaf}
-use Rattle.sub_key_list.specs.declared.LeafList.{LeafList}
 use Rattle.sub_key_list.specs.declared.IndexList.{IndexList}
 use Rattle.sub_key_list.specs.declared.SubKeyList.TheVariants as found
 use Rattle.sub_key_walk.specs.Trace.{Event, walk_from, kept_of, total}
 use Rattle.sub_key_walk.specs.Judge.{fault, judge}
-use Rattle.sub_key_walk.specs.Answers.{BUDGET_LIMIT, COUNT_LIMIT, none, from_record, measured, full_of, answer_of, reached_for, reached_by, kept_by, walk_told, walk_paper, WalkAnswered}
-use Rattle.sub_key_walk.specs.Leaf.{read_of, full_leaf, leaf_answer_of, kept_from, LeafAnsweredAs, LeafAnswered}
+use Rattle.sub_key_walk.specs.Answers.{BUDGET_LIMIT, COUNT_LIMIT, none, from_record, full_of, reached_for, reached_by, kept_by, walk_told, walk_paper}
+use Rattle.sub_key_walk.specs.Leaf.{read_of, full_leaf, leaf_in_room, kept_from, LeafAnsweredAs}
 use Rattle.sub_key_walk.specs.Free.{counts_of}
-use Rattle.sub_key_walk.specs.Walk.{start_fault, Whole, Filled, Roomy}
+use Rattle.sub_key_walk.specs.Walk.{start_fault, Whole, Filled, Roomy, AnsweredAs}
 use Rattle.sub_key_walk.specs.declared.Counts.{Counts}
 use Rattle.sub_key_walk.specs.declared.WalkRefusal.{WalkRefusal}
-use Rattle.sub_key_walk.specs.declared.WalkAnswer.{WalkAnswer}
-use Rattle.sub_key_walk.specs.declared.WalkAnswer.TheVariants.{Read, Refused}
 use Rattle.sub_key_walk.specs.declared.LeafRead.{LeafRead}
-use Rattle.sub_key_walk.specs.declared.LeafAnswer.TheVariants as leaf
 use Rattle.sub_key_walk.proofs.Judged.{judge-counts}
+use Rattle.std.specs.Prelude.{Ok, Err}
+use Rattle.std.specs.declared.result.Result.{Result}
+use Rattle.words.specs.Paper.{number_of}
 
 -- a row that is written from the first place on
 front_filled : (ks old : List ℕ) {r : ℕ} {new : List ℕ} → Filled ks old 0 r new → length ks ≤ length old → new ≡ ks ++ drop (length ks) old
@@ -111,90 +110,94 @@ kept_some s base count list h = reached_walk count (walk_from s base list) some
     some : count ≡ 0 → ⊥
     some z = let e = ap (λ (es : List Event). length (kept_of es)) (reached_none count (walk_from s base list) z) in omega arith
 
--- ---- and with it
+-- ---- and with it: the lists `es` are reached, and where that succeeds, they are those of the ordinary walk
 
-module _ (s : List ℕ) (base count list budget : ℕ) (old : List ℕ) (w : WalkAnswer) (k : walk_paper w ≡ measured s base count list budget) where
-  given : {a : Paper Counts} → walk_paper w ≡ a → answer_of s base count list budget (length old) ≡ in_room full_of (length old) a
+module _ (s : List ℕ) (base count list budget : ℕ) (es : List Event) (same : (t : Counts) → from_record count budget es ≡ success t → reached_for count es ≡ reached_by s base count list)
+    (old : List ℕ) (w : (Result Counts WalkRefusal)) (k : walk_paper w ≡ from_record count budget es) where
+  given : {a : Paper Counts} → walk_paper w ≡ a → in_room full_of (length old) (from_record count budget es) ≡ in_room full_of (length old) a
   given e = ap (in_room full_of (length old)) (sym k ∙ e)
 
-  pub walk_refused : {f : WalkRefusal} → w ≡ Refused f → WalkAnswered s base count list budget old (Refused f) old
-  walk_refused {f} q = answered_refused refl (given (ap walk_paper q) ∙ room_refused full_of (length old) (walk_told f))
+  pub walk_refused : {f : WalkRefusal} {r : (Result Counts WalkRefusal)} → w ≡ Err f → r ≡ Err f → AnsweredAs count budget es old r old
+  walk_refused {f} q e = answered_refused (ap walk_paper e) (given (ap walk_paper q) ∙ room_refused full_of (length old) (walk_told f))
 
-  module _ {t : Counts} (q : w ≡ Read t) where
-    pub walk_full : length old < t.kept → {f : WalkRefusal} → walk_told f ≡ no_room_told t.lists t.kept t.entries t.dropped → WalkAnswered s base count list budget old (Refused f) old
-    walk_full h e = answered_refused (ap refused e) (given (ap walk_paper q) ∙ room_full full_of (length old) t h)
+  module _ {t : Counts} (q : w ≡ Ok t) where
+    pub walk_full : length old < t.kept → (f : WalkRefusal) → walk_told f ≡ full_of t → AnsweredAs count budget es old (Err f) old
+    walk_full h f e = answered_refused (ap refused e) (given (ap walk_paper q) ∙ room_full full_of (length old) t h)
+
+    counts_t : from_record count budget es ≡ success t
+    counts_t = sym k ∙ ap walk_paper q
 
     -- what is counted, of the lists reached
-    kept_number : t.kept ≡ length (kept_by s base count list)
-    kept_number = ap (λ (c : Counts). c.kept) (measured-counts count budget (walk_from s base list) t (sym k ∙ ap walk_paper q))
+    kept_number : t.kept ≡ length (kept_of (reached_for count es))
+    kept_number = ap (λ (c : Counts). c.kept) (measured-counts count budget es t counts_t)
 
     module _ (h : t.kept ≤ length old) where
-      fits : answer_of s base count list budget (length old) ≡ success t
+      fits : in_room full_of (length old) (from_record count budget es) ≡ success t
       fits = given (ap walk_paper q) ∙ room_fits full_of (length old) t h
 
-      pub walk_empty : t.kept ≤ 0 → WalkAnswered s base count list budget old (Read t) old
+      pub walk_empty : t.kept ≤ 0 → AnsweredAs count budget es old (Ok t) old
       walk_empty z =
           let e = kept_number in
-          answered_success refl fits (ap (λ (ks : List ℕ). ks ++ drop (length ks) old) (sym (no_row (kept_by s base count list) (omega arith))))
+          answered_success refl fits (ap (λ (ks : List ℕ). ks ++ drop (length ks) old) (sym (no_row (kept_of (reached_for count es)) (omega arith))))
 
       module _ (some : 0 < t.kept) where
-        walked : reached_by s base count list ≡ walk_from s base list
-        walked = let e = kept_number in kept_some s base count list (omega arith)
+        walked : reached_for count es ≡ walk_from s base list
+        walked = let e = kept_number ∙ ap (λ (xs : List Event). length (kept_of xs)) (same t counts_t) in same t counts_t ∙ kept_some s base count list (omega arith)
 
         counted : t ≡ counts_of (walk_from s base list)
-        counted = measured-counts count budget (walk_from s base list) t (sym k ∙ ap walk_paper q) ∙ ap counts_of walked
+        counted = measured-counts count budget es t counts_t ∙ ap counts_of walked
 
         pub walk_roomy : {whole : Bool} → whole ≡ eqb t.dropped 0 → Roomy (walk_from s base list) whole old 0
         walk_roomy z =
             let n = ap (λ (c : Counts). c.kept) counted in
             record { room = omega arith; all = λ e. sym (ap (λ (c : Counts). c.dropped) counted) ∙ eqb-true _ _ (sym z ∙ e) }
 
-        pub walk_filled : {r : ℕ} {new : List ℕ} → Filled (kept_of (walk_from s base list)) old 0 r new → WalkAnswered s base count list budget old (Read t) new
+        pub walk_filled : {r : ℕ} {new : List ℕ} → Filled (kept_of (walk_from s base list)) old 0 r new → AnsweredAs count budget es old (Ok t) new
         walk_filled f =
             let n = ap (λ (c : Counts). c.kept) counted in
             answered_success refl fits
             (front_filled (kept_of (walk_from s base list)) old f (omega arith)
-            ∙ ap (λ (es : List Event). kept_of es ++ drop (length (kept_of es)) old) (sym walked))
+            ∙ ap (λ (xs : List Event). kept_of xs ++ drop (length (kept_of xs)) old) (sym walked))
 
 -- ---- one leaf list
 
 -- whichever way the list is read
 module _ (s : List ℕ) (base p : ℕ) (old : List ℕ) {a : Paper Listed} where
-  pub leaf-refused : {g : Refusal} → list_paper (found.Refused g) ≡ a → {f : WalkRefusal} → walk_told f ≡ fault g.number g.position 0
-      → LeafAnsweredAs (only_leaf s base p a) old (leaf.Refused f) old
+  pub leaf-refused : (g : Refusal) → list_paper (Err g) ≡ a → (f : WalkRefusal) → walk_told f ≡ fault (number_of g.reason) g.position 0
+      → LeafAnsweredAs (only_leaf s base p a) old (Err f) old
   unfolding in_room on_success only_leaf
-  leaf-refused e q = answered_refused (ap refused q) (rw (← e))
+  leaf-refused g e f q = answered_refused (ap refused q) (rw (← e))
 
-  pub leaf-index : {l : IndexList} → list_paper (found.Index l) ≡ a → {f : WalkRefusal} → walk_told f ≡ fault BAD_SIGN p 0
-      → LeafAnsweredAs (only_leaf s base p a) old (leaf.Refused f) old
+  pub leaf-index : {l : IndexList} → list_paper (Ok (found.Index l)) ≡ a → (f : WalkRefusal) → walk_told f ≡ fault BAD_SIGN p 0
+      → LeafAnsweredAs (only_leaf s base p a) old (Err f) old
   unfolding in_room on_success only_leaf
-  leaf-index e q = answered_refused (ap refused q) (rw (← e))
+  leaf-index e f q = answered_refused (ap refused q) (rw (← e))
 
-module _ (s : List ℕ) (base p : ℕ) (old : List ℕ) where
-  module _ {l : LeafList} (e : list_paper (found.Leaf l) ≡ list_at s p) {t : LeafRead} (d : t ≡ read_of (leaf_of s base p l.entry_size l.count)) where
-    abbrev row : List ℕ
-    row = leaf_kept s base l.entry_size l.count (p + 8)
+module _ (s : List ℕ) (base p : ℕ) (old : List ℕ) {a : Paper Listed} {kind size n : ℕ} (e : success (leaf kind size n) ≡ a)
+    {t : LeafRead} (d : t ≡ read_of (leaf_of s base p size n)) where
+  abbrev row : List ℕ
+  row = leaf_kept s base size n (p + 8)
 
-    kept_row : t.kept ≡ length row
-    kept_row = ap (λ (c : LeafRead). c.kept) d
+  kept_row : t.kept ≡ length row
+  kept_row = ap (λ (c : LeafRead). c.kept) d
 
-    here : leaf_answer_of s base p (length old) ≡ in_room full_leaf (length old) (success t)
-    unfolding on_success only_leaf
-    here = rw (← e) (ap (λ (c : LeafRead). in_room full_leaf (length old) (success c)) (sym d))
+  here : leaf_in_room (only_leaf s base p a) (length old) ≡ in_room full_leaf (length old) (success t)
+  unfolding on_success only_leaf
+  here = rw (← e) (ap (λ (c : LeafRead). in_room full_leaf (length old) (success c)) (sym d))
 
-    pub leaf_full : length old < t.kept → {f : WalkRefusal} → walk_told f ≡ no_room_told 0 t.kept t.entries t.dropped → LeafAnswered s base p old (leaf.Refused f) old
-    leaf_full h q = answered_refused (ap refused q) (here ∙ room_full full_leaf (length old) t h)
+  pub leaf_full : length old < t.kept → (f : WalkRefusal) → walk_told f ≡ full_leaf t → LeafAnsweredAs (only_leaf s base p a) old (Err f) old
+  leaf_full h f q = answered_refused (ap refused q) (here ∙ room_full full_leaf (length old) t h)
 
-    module _ (h : t.kept ≤ length old) where
-      pub leaf_roomy : 0 + length row ≤ length old
-      leaf_roomy = let k = kept_row in omega arith
+  module _ (h : t.kept ≤ length old) where
+    pub leaf_roomy : 0 + length row ≤ length old
+    leaf_roomy = let k = kept_row in omega arith
 
-      pub leaf-whole : {whole : Bool} → whole ≡ eqb t.dropped 0 → Whole s base l.entry_size l.count (p + 8) whole
-      leaf-whole z q = sym (ap (λ (c : LeafRead). c.dropped) d) ∙ eqb-true _ _ (sym z ∙ q)
+    pub leaf-whole : {whole : Bool} → whole ≡ eqb t.dropped 0 → Whole s base size n (p + 8) whole
+    leaf-whole z q = sym (ap (λ (c : LeafRead). c.dropped) d) ∙ eqb-true _ _ (sym z ∙ q)
 
-      pub leaf_filled : {r : ℕ} {new : List ℕ} → Filled row old 0 r new → LeafAnswered s base p old (leaf.Read t) new
-      unfolding only_leaf kept_from
-      leaf_filled f =
-          let k = kept_row in
-          answered_success refl (here ∙ room_fits full_leaf (length old) t h)
-          (front_filled row old f (omega arith) ∙ rw (← e))
+    pub leaf_filled : {r : ℕ} {new : List ℕ} → Filled row old 0 r new → LeafAnsweredAs (only_leaf s base p a) old (Ok t) new
+    unfolding only_leaf kept_from
+    leaf_filled f =
+        let k = kept_row in
+        answered_success refl (here ∙ room_fits full_leaf (length old) t h)
+        (front_filled row old f (omega arith) ∙ rw (← e))

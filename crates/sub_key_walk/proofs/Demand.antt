@@ -18,12 +18,12 @@ use Rattle.sub_key_walk.specs.Free.{All, Met, counts_of, Full, front, lists_read
 use Rattle.sub_key_walk.specs.Demand.{Demand3}
 use Rattle.sub_key_walk.specs.declared.Counts.{Counts}
 use Rattle.sub_key_walk.specs.declared.WalkRefusal.{WalkRefusal}
-use Rattle.sub_key_walk.specs.declared.WalkAnswer.{WalkAnswer}
-use Rattle.sub_key_walk.specs.declared.WalkAnswer.TheVariants.{Read, Refused}
 use Rattle.sub_key_walk.proofs.Papers.{paper_read}
 use Rattle.sub_key_walk.proofs.Answers.{Started, measured_walk, reached_walk}
 use Rattle.sub_key_walk.proofs.Judged.{tally_counts, lists_all, judge_all, all_judge, judge_lists}
 use Rattle.sub_key_walk.proofs.Traces.{good_fine, fine_good, trace_dense}
+use Rattle.std.specs.Prelude.{Ok, Err}
+use Rattle.std.specs.declared.result.Result.{Result}
 -- What document 01 says of an answer tells the answers apart, and two answers with their buffers that are allowed for one input
 -- are equal.
 pub use Rattle.sub_key_walk.proofs.Papers.{paper_injective, answers_determined}
@@ -101,18 +101,18 @@ module _ (s : List ℕ) (base count list budget room : ℕ) (d : Started count b
 -- ---- of the answer itself: any answer `r` and any buffer `new` that the contract of `sub_keys` allows
 
 -- an answer by its paper
-read_paper : {r : WalkAnswer} {t : Counts} → r ≡ Read t → walk_paper r ≡ success t
+read_paper : {r : (Result Counts WalkRefusal)} {t : Counts} → r ≡ Ok t → walk_paper r ≡ success t
 read_paper q = ap walk_paper q
 
 -- every answer reports the definition's number of lists, and a refusal changes no place: for every input
-module _ (s : List ℕ) (base count list budget : ℕ) (old : List ℕ) (r : WalkAnswer) (new : List ℕ) (x : WalkAnswered s base count list budget old r new) where
+module _ (s : List ℕ) (base count list budget : ℕ) (old : List ℕ) (r : (Result Counts WalkRefusal)) (new : List ℕ) (x : WalkAnswered s base count list budget old r new) where
   pub answer_lists : lists_by (walk_paper r) ≡ lists_read s base count list budget
   answer_lists = ap lists_by x.answer ∙ lists_reported s base count list budget (length old)
 
-  pub refusal_untouched : (f : WalkRefusal) → r ≡ Refused f → new ≡ old
+  pub refusal_untouched : (f : WalkRefusal) → r ≡ Err f → new ≡ old
   refusal_untouched f q = untouched x (ap walk_paper q)
 
-pub demand_3 : (s : List ℕ) (base count list budget : ℕ) (old : List ℕ) (r : WalkAnswer) (new : List ℕ)
+pub demand_3 : (s : List ℕ) (base count list budget : ℕ) (old : List ℕ) (r : (Result Counts WalkRefusal)) (new : List ℕ)
     → WalkAnswered s base count list budget old r new → 1 ≤ count → count ≤ COUNT_LIMIT → budget ≤ BUDGET_LIMIT → Demand3 s base count list budget old r new
 demand_3 s base count list budget old r new x some few small = record {
   if = λ m. record { counts = counts_of (walk_from s base list); is = paper_read r _ (x.answer ∙ succeeds_if s base count list budget (length old) d m) };

@@ -27,11 +27,11 @@ use Rattle.sub_key_walk.specs.Free.{All}
 use Rattle.sub_key_walk.specs.Dropped.{dropped_by, dropped_from, Sums, Drops, WalkDrops, LeafDrops}
 use Rattle.sub_key_walk.specs.declared.Counts.{Counts}
 use Rattle.sub_key_walk.specs.declared.LeafRead.{LeafRead}
-use Rattle.sub_key_walk.specs.declared.WalkAnswer.{WalkAnswer}
-use Rattle.sub_key_walk.specs.declared.LeafAnswer.{LeafAnswer}
 use Rattle.sub_key_walk.proofs.Traces.{event_of, trace_all}
 use Rattle.sub_key_walk.proofs.Answers.{measured-counts}
 use Rattle.sub_key_walk.proofs.Refusals.{Sound, record_every}
+use Rattle.std.specs.declared.result.Result.{Result}
+use Rattle.sub_key_walk.specs.declared.WalkRefusal.{WalkRefusal}
 
 -- ---- the lists reached: every entry is kept or dropped
 
@@ -108,11 +108,11 @@ module _ (s : List ℕ) (base count list budget : ℕ) where
       record { counted = d; rest = omega (arith, reached_sum s base count list) }
 
   -- any answer that the contract of `sub_key_counts` allows
-  pub counts-drop : (r : WalkAnswer) → walk_paper r ≡ measured s base count list budget → WalkDrops s base count list r
+  pub counts-drop : (r : (Result Counts WalkRefusal)) → walk_paper r ≡ measured s base count list budget → WalkDrops s base count list r
   counts-drop r e = subst (Drops full_of _) (sym e) (free_drops full_of _ _ (measured-plain s base count list budget) walk_sums)
 
   -- any answer that the contract of `sub_keys` allows
-  pub walk_drops : (old : List ℕ) (r : WalkAnswer) (new : List ℕ) → WalkAnswered s base count list budget old r new → WalkDrops s base count list r
+  pub walk_drops : (old : List ℕ) (r : (Result Counts WalkRefusal)) (new : List ℕ) → WalkAnswered s base count list budget old r new → WalkDrops s base count list r
   walk_drops old r new x =
       subst (Drops full_of _) (sym x.answer) (room_drops full_of _ _ (measured-plain s base count list budget) walk_sums (λ v. refl) (length old))
 
@@ -137,7 +137,7 @@ module _ (s : List ℕ) (base p : ℕ) where
       subst (λ (u : LeafRead). Sums (full_leaf u) (dropped_from (leaf_at s base p))) w.2 (only_sums (list_at s p) w.0 w.1)
 
   -- any answer that the contract of `leaf_sub_keys` allows
-  pub leaf_drops : (old : List ℕ) (r : LeafAnswer) (new : List ℕ) → LeafAnswered s base p old r new → LeafDrops s base p r
+  pub leaf_drops : (old : List ℕ) (r : (Result LeafRead WalkRefusal)) (new : List ℕ) → LeafAnswered s base p old r new → LeafDrops s base p r
   leaf_drops old r new x =
       subst (Drops full_leaf _) (sym x.answer)
       (room_drops full_leaf _ _ (plainly_on read_of (leaf_at s base p) (only_plain (list_at s p) (list-plain s p))) leaf_sums (λ v. refl) (length old))

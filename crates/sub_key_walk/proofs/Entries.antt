@@ -2,8 +2,8 @@
 use mathlib.Core.Path.{◌≡◌, refl, ap, sym, subst, ◌∙◌}
 use mathlib.Core.List.{List, []}
 use mathlib.Core.Bool.{Bool}
-use Prim.Native.Nat.{ℕ, suc, ◌+◌, ◌-◌, ◌*◌, ◌≤◌, ◌<◌}
-use native.Mathlib.Nat.{sub-zero, add-zero, mul-suc}
+use Prim.Native.Nat.{ℕ, ◌+◌, ◌-◌, ◌*◌, ◌≤◌, ◌<◌}
+use native.Mathlib.Nat.{sub-zero, add-zero, mul-zero}
 use native.Mathlib.Omega.{arith}
 use lib.ListN.{length, set}
 use Rattle.words.specs.Words.{word32}
@@ -13,48 +13,36 @@ use Rattle.sub_key_walk.specs.Walk.{Entries, Whole, Bound, Sized, Filled}
 use Rattle.sub_key_walk.proofs.Traces.{Standing}
 use Rattle.sub_key_walk.proofs.Uses.{Passing, passing_start, piece_there, piece_ready, passing_piece, passing_ready, passing_step, passing_end}
 use Rattle.sub_key_walk.proofs.Fills.{numbers}
-
--- ---- an entry that is left is there, and so are those behind it
-
-module _ (size n i : ℕ) (h : i < n) where
-  entries_left : size * (n - i) ≡ size * (n - (i + 1)) + size
-  entries_left = let e : n - i ≡ suc (n - (i + 1)) = omega arith in ap (λ (k : ℕ). size * k) e ∙ mul-suc size (n - (i + 1))
-
-  pub entry_there : (s : List ℕ) (at : ℕ) → 4 ≤ size → at + size * (n - i) ≤ length s → (4 ≤ size) × (at + size ≤ length s)
-  entry_there s at w l = (w, omega (arith, entries_left))
-
-  pub entry_next : (s : List ℕ) (at : ℕ) → at + size * (n - i) ≤ length s → at + size + size * (n - (i + 1)) ≤ length s
-  entry_next s at l = omega (arith, entries_left)
+use Rattle.sub_key_walk.proofs.Pieces.{times_next}
 
 -- ---- counting: `dropped` of the first `i` are dropped, and what is left gives the rest
 
-pub record Counting (s : List ℕ) (base size n first at dropped i : ℕ) : Type 0 where
+pub record Counting (s : List ℕ) (base size n first dropped i : ℕ) : Type 0 where
   pub within : i ≤ n
   pub few : dropped ≤ i
-  pub inside : at + size * (n - i) ≤ length s
-  pub counts : dropped + leaf_dropped s base size (n - i) at ≡ leaf_dropped s base size n first
+  pub counts : dropped + leaf_dropped s base size (n - i) (first + size * i) ≡ leaf_dropped s base size n first
 
-module _ (s : List ℕ) (base size n first : ℕ) (w : Entries s size n first) where
-  pub counting_start : Counting s base size n first first 0 0
+module _ (s : List ℕ) (base size n first : ℕ) where
+  pub counting_start : Counting s base size n first 0 0
   counting_start =
-      let l = w.inside in
-      record { within = omega arith; few = omega arith; inside = rw sub-zero l; counts = rw sub-zero (omega arith) }
+      let e : first + size * 0 ≡ first = omega (arith, mul-zero size) in
+      record { within = omega arith; few = omega arith; counts = rw (sub-zero, e) (omega arith) }
 
-  module _ (at dropped i : ℕ) (c : Counting s base size n first at dropped i) where
-    pub counting_step : i < n → {v r : ℕ} → v ≡ word32 s at → r ≡ drop_one (v + base) → Counting s base size n first (at + size) (dropped + r) (i + 1)
+  module _ (dropped i : ℕ) (c : Counting s base size n first dropped i) where
+    pub counting_step : i < n → {v r : ℕ} → v ≡ word32 s (first + size * i) → r ≡ drop_one (v + base) → Counting s base size n first (dropped + r) (i + 1)
     counting_step h {v} {r} e q =
         let m = c.counts in
         let f = c.few in
-        let d : r ≡ drop_one (word32 s at + base) = q ∙ ap (λ (x : ℕ). drop_one (x + base)) e in
+        let d : r ≡ drop_one (word32 s (first + size * i) + base) = q ∙ ap (λ (x : ℕ). drop_one (x + base)) e in
+        let t : first + size * (i + 1) ≡ first + size * i + size = omega (arith, times_next size i) in
         record {
           within = omega arith;
-          few = omega (arith, keep_or_drop (word32 s at + base));
-          inside = entry_next size n i h s at c.inside;
-          counts = omega (arith, dropped_next s base size (n - i) (n - (i + 1)) at (omega arith));
+          few = omega (arith, keep_or_drop (word32 s (first + size * i) + base));
+          counts = rw t (omega (arith, dropped_next s base size (n - i) (n - (i + 1)) (first + size * i) (omega arith)));
         }
 
     pub counting_end : n ≤ i → dropped ≡ leaf_dropped s base size n first
-    counting_end h = let m = c.counts in omega (arith, dropped_none s base size (n - i) at (omega arith))
+    counting_end h = let m = c.counts in omega (arith, dropped_none s base size (n - i) (first + size * i) (omega arith))
 
 -- ---- writing: the use of a walk that writes numbers
 
@@ -62,8 +50,8 @@ abbrev pub Filling : List ℕ → ℕ → ℕ → ℕ → ℕ → List ℕ → �
 Filling s base size n first old place out at to i = Passing (numbers (length old)) s base size n first (old, place) (out, to) at i
 
 module _ (s : List ℕ) (base size n first : ℕ) (old : List ℕ) (place : ℕ) where
-  pub filling_start : Entries s size n first → place + length (leaf_kept s base size n first) ≤ length old → Filling s base size n first old place old first place 0
-  filling_start w r = passing_start (numbers (length old)) s base size n first (old, place) w (refl, r)
+  pub filling_start : Entries s size n first → place + length (leaf_kept s base size n first) ≤ length old → (at : ℕ) → at ≡ first → Filling s base size n first old place old at place 0
+  filling_start w r at e = rw e (passing_start (numbers (length old)) s base size n first (old, place) w (refl, r))
 
   module _ (out : List ℕ) (at to i : ℕ) (f : Filling s base size n first old place out at to i) where
     -- the buffer is as long as it was
@@ -90,8 +78,8 @@ module _ (s : List ℕ) (base size n first : ℕ) (old : List ℕ) (place : ℕ)
           let m = r.1 in
           omega (arith, r.0)
 
-      pub filling_step : {new : List ℕ} {r : ℕ} → Filled (keep (v + base) []) out to r new → Filling s base size n first old place new (at + size) r (i + 1)
-      filling_step {new} {r} p = passing_step (numbers (length old)) s base size n first (old, place) (out, to) at i f h w e {y = (new, r)} p
+      pub filling_step : {new : List ℕ} {r : ℕ} → Filled (keep (v + base) []) out to r new → (next : ℕ) → next ≡ at + size → Filling s base size n first old place new next r (i + 1)
+      filling_step {new} {r} p next b = rw b (passing_step (numbers (length old)) s base size n first (old, place) (out, to) at i f h w e {y = (new, r)} p)
 
     pub filling_end : n ≤ i → Filled (leaf_kept s base size n first) old place to out
     filling_end h = passing_end (numbers (length old)) s base size n first (old, place) (out, to) at i f h
@@ -107,7 +95,7 @@ module _ (s : List ℕ) (base size n first : ℕ) (old : List ℕ) (place : ℕ)
   pieces-start r =
       record {
         some = omega arith;
-        filling = subst (λ (i : ℕ). Filling s base size n first old place old first place i) (omega arith) (filling_start s base size n first old place w r);
+        filling = subst (λ (i : ℕ). Filling s base size n first old place old first place i) (omega arith) (filling_start s base size n first old place w r _ refl);
       }
 
   module _ (out : List ℕ) (at to left : ℕ) (f : Piecewise s base size n first old place out at to left) (k : ℕ) (h : k ≤ left) where
@@ -162,27 +150,47 @@ module _ (s : List ℕ) (base size n at i : ℕ) (h : i < n) (z : leaf_dropped s
   whole_rest : leaf_dropped s base size (n - (i + 1)) (at + size) ≡ 0
   whole_rest = omega (arith, dropped_next s base size (n - i) (n - (i + 1)) at (omega arith))
 
--- so the next sum fits 32 bits and has a place, and the loop goes on behind it
-pub record WholeNext (s : List ℕ) (base size n first : ℕ) (old : List ℕ) (place : ℕ) (out : List ℕ) (at to i v : ℕ) : Type 0 where
+-- so `i` of them take as many places, and of what is left none is dropped
+pub record FillingWhole (s : List ℕ) (base size n first : ℕ) (old : List ℕ) (place : ℕ) (out : List ℕ) (i : ℕ) : Type 0 where
+  pub filling : Filling s base size n first old place out (first + size * i) (place + i) i
+  pub rest : leaf_dropped s base size (n - i) (first + size * i) ≡ 0
+
+-- the next sum fits 32 bits and has a place, and the loop goes on behind it
+pub record WholeNext (s : List ℕ) (base size n first : ℕ) (old : List ℕ) (place : ℕ) (out : List ℕ) (i v : ℕ) : Type 0 where
   pub fits : v + base < 4294967296
-  pub there : to + 1 ≤ length out
-  pub next : Filling s base size n first old place (set out to (v + base)) (at + size) (to + 1) (i + 1)
-  pub rest : leaf_dropped s base size (n - (i + 1)) (at + size) ≡ 0
+  pub there : place + i + 1 ≤ length out
+  pub next : FillingWhole s base size n first old place (set out (place + i) (v + base)) (i + 1)
 
-pub whole_next : (s : List ℕ) (base size n first : ℕ) (old : List ℕ) (place : ℕ) (out : List ℕ) (at to i v : ℕ) → Filling s base size n first old place out at to i
-    → leaf_dropped s base size (n - i) at ≡ 0 → i < n → v ≡ word32 s at → 4 ≤ size → WholeNext s base size n first old place out at to i v
-whole_next s base size n first old place out at to i v f z h e w =
-    let k : v + base < 4294967296 = whole_first s base size n at i h z e in
-    let r = filling_room s base size n first old place out at to i f h w e in
-    record {
-      fits = k;
-      there = omega (arith, ap length (keep_kept (v + base) k));
-      next = filling_step s base size n first old place out at to i f h w e (put_kept (v + base) to out k);
-      rest = whole_rest s base size n at i h z;
-    }
+module _ (s : List ℕ) (base size n first : ℕ) (old : List ℕ) (place : ℕ) where
+  pub whole_start : Entries s size n first → leaf_dropped s base size n first ≡ 0 → place + length (leaf_kept s base size n first) ≤ length old
+      → FillingWhole s base size n first old place old 0
+  whole_start w z r =
+      let e : first + size * 0 ≡ first = omega (arith, mul-zero size) in
+      record {
+        filling = subst (λ (to : ℕ). Filling s base size n first old place old (first + size * 0) to 0) (omega arith) (filling_start s base size n first old place w r _ e);
+        rest = rw (sub-zero, e) z;
+      }
 
-pub whole-start : (s : List ℕ) (base size n first : ℕ) → leaf_dropped s base size n first ≡ 0 → leaf_dropped s base size (n - 0) first ≡ 0
-whole-start s base size n first z = rw sub-zero z
+  module _ (out : List ℕ) (i : ℕ) where
+    pub whole_next : (v : ℕ) → FillingWhole s base size n first old place out i → i < n → v ≡ word32 s (first + size * i) → 4 ≤ size → WholeNext s base size n first old place out i v
+    whole_next v f h e w =
+        let k : v + base < 4294967296 = whole_first s base size n (first + size * i) i h f.rest e in
+        let r = filling_room s base size n first old place out (first + size * i) (place + i) i f.filling h w e in
+        let t : first + size * (i + 1) ≡ first + size * i + size = omega (arith, times_next size i) in
+        record {
+          fits = k;
+          there = omega (arith, ap length (keep_kept (v + base) k));
+          next = record {
+            filling = subst (λ (to : ℕ). Filling s base size n first old place (set out (place + i) (v + base)) (first + size * (i + 1)) to (i + 1)) (omega arith)
+                (filling_step s base size n first old place out (first + size * i) (place + i) i f.filling h w e (put_kept (v + base) (place + i) out k) _ t);
+            rest = rw t (whole_rest s base size n (first + size * i) i h f.rest);
+          };
+        }
+
+    pub whole_end : FillingWhole s base size n first old place out i → n ≤ i → Filled (leaf_kept s base size n first) old place (place + n) out
+    whole_end f h =
+        let l = f.filling.within in
+        subst (λ (r : ℕ). Filled (leaf_kept s base size n first) old place r out) (omega arith) (filling_end s base size n first old place out (first + size * i) (place + i) i f.filling h)
 
 -- ---- the loops over entries are called with their size as a constant
 

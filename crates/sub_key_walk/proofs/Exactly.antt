@@ -26,13 +26,14 @@ use Rattle.sub_key_walk.specs.Free.{All}
 use Rattle.sub_key_walk.specs.Strict.{strict, strict_from, strict_measured, StrictAnswered}
 use Rattle.sub_key_walk.specs.Profiles.{Permits, IsLeaf, Flat, Permitted, Exactly}
 use Rattle.sub_key_walk.specs.declared.Counts.{Counts}
-use Rattle.sub_key_walk.specs.declared.WalkAnswer.{WalkAnswer}
 use Rattle.sub_key_walk.proofs.Walks.{trace_in, levels_left, named_left}
 use Rattle.sub_key_walk.proofs.Judged.{Good, all_judge}
 use Rattle.sub_key_walk.proofs.Papers.{paper_read}
 use Rattle.sub_key_walk.proofs.Answers.{reached_walk}
 use Rattle.sub_key_walk.proofs.Traces.{all_append, append_all, leaf_is_not_ri, index_is_ri}
 use Rattle.sub_key_walk.proofs.Profiles.{accepted_same}
+use Rattle.std.specs.declared.result.Result.{Result}
+use Rattle.sub_key_walk.specs.declared.WalkRefusal.{WalkRefusal}
 
 -- what is asked of a list that is named is asked of it by itself too, and of a leaf list it is the same
 unnamed : (s : List ℕ) (minor : ℕ) (named : Bool) (p : ℕ) → Met s minor named p → Met s minor false p
@@ -147,7 +148,7 @@ record_success count budget es t some q = go (ltb BUDGET_LIMIT budget) (ltb COUN
 
 -- with no regard to room or with it: `f` is what room makes of an answer, and no success of its own
 module _ (s : List ℕ) (base count list budget minor : ℕ) (some : count ≡ 0 → ⊥) where
-  module _ (f : Paper Counts → Paper Counts) (back : (a : Paper Counts) (t : Counts) → f a ≡ success t → a ≡ success t) (r o : WalkAnswer)
+  module _ (f : Paper Counts → Paper Counts) (back : (a : Paper Counts) (t : Counts) → f a ≡ success t → a ≡ success t) (r o : (Result Counts WalkRefusal))
       (x : walk_paper r ≡ f (strict_measured s base count list budget minor)) (y : walk_paper o ≡ f (measured s base count list budget)) where
     succeeds_exactly : Exactly s base list minor r o
     succeeds_exactly = record {
@@ -168,12 +169,12 @@ module _ (s : List ℕ) (base count list budget minor : ℕ) (some : count ≡ 0
     }
 
   -- any answers that the contracts of `strict_sub_key_counts` and of `sub_key_counts` allow
-  pub counts_exactly : (r o : WalkAnswer) → walk_paper r ≡ strict_measured s base count list budget minor → walk_paper o ≡ measured s base count list budget
+  pub counts_exactly : (r o : (Result Counts WalkRefusal)) → walk_paper r ≡ strict_measured s base count list budget minor → walk_paper o ≡ measured s base count list budget
       → Exactly s base list minor r o
   counts_exactly r o x y = succeeds_exactly (λ a. a) (λ a t e. e) r o x y
 
   -- any that the contracts of `strict_sub_keys` and of `sub_keys` allow
-  pub sub_keys_exactly : (old : List ℕ) (r : WalkAnswer) (new : List ℕ) (o : WalkAnswer) (made : List ℕ)
+  pub sub_keys_exactly : (old : List ℕ) (r : (Result Counts WalkRefusal)) (new : List ℕ) (o : (Result Counts WalkRefusal)) (made : List ℕ)
       → StrictAnswered s base count list budget minor old r new → WalkAnswered s base count list budget old o made → Exactly s base list minor r o
   sub_keys_exactly old r new o made x y =
       succeeds_exactly (in_room full_of (length old)) (λ a t e. (room_success full_of (length old) a t e).0) r o x.answer y.answer

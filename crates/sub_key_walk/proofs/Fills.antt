@@ -8,11 +8,10 @@ use native.Mathlib.Omega.{arith}
 use lib.ListN.{length, length-append}
 use lib.Seq.{sets, length-sets}
 use Rattle.words.specs.Words.{word32}
-use Rattle.words.specs.Paper.{Paper}
+use Rattle.words.specs.Paper.{Paper, success}
 use Rattle.words.specs.declared.Refusal.{Refusal}
-use Rattle.sub_key_list.specs.Lists.{Listed, list_paper}
+use Rattle.sub_key_list.specs.Lists.{Listed, list_paper, leaf}
 use Rattle.sub_key_list.specs.Leaves.{leaf_kept, leaf_dropped}
-use Rattle.sub_key_list.specs.declared.LeafList.{LeafList}
 use Rattle.sub_key_list.specs.declared.IndexList.{IndexList}
 use Rattle.sub_key_list.specs.declared.SubKeyList.TheVariants as found
 use Rattle.sub_key_list.proofs.Leaves.{sets_append}
@@ -20,6 +19,7 @@ use Rattle.sub_key_walk.specs.Trace.{Event, each, below, trace, kept_of, dropped
 use Rattle.sub_key_walk.specs.Walk.{Whole, Filled, Roomy}
 use Rattle.sub_key_walk.proofs.Walks.{trace_in, each_next, total-append}
 use Rattle.sub_key_walk.proofs.Uses.{Use, Spreading, spreading_start, spreading_ready, spreading_step, spreading_end, kept_deep, kept_bad, kept_leaf, kept_index, ready_as, goes_as, goes_nowhere}
+use Rattle.std.specs.Prelude.{Ok, Err}
 
 -- ---- rows written one behind another
 
@@ -80,8 +80,8 @@ pub record Spread (f : ℕ → List Event) (s : List ℕ) (n first : ℕ) (whole
   pub all : whole ≡ true → dropped_of (each f s (n - i) pos) ≡ 0
 
 module _ (f : ℕ → List Event) (s : List ℕ) (n first : ℕ) (whole : Bool) (old : List ℕ) (place : ℕ) where
-  pub spread_start : Roomy (each f s n first) whole old place → Spread f s n first whole old place old place first 0
-  spread_start v = record { spreading = spreading_start (numbers (length old)) f s n first (old, place) (refl, v.room); all = rw sub-zero v.all }
+  pub spread_start : Roomy (each f s n first) whole old place → (pos : ℕ) → pos ≡ first → Spread f s n first whole old place old place pos 0
+  spread_start v pos e = rw e (record { spreading = spreading_start (numbers (length old)) f s n first (old, place) (refl, v.room); all = rw sub-zero v.all })
 
   module _ (out : List ℕ) (to pos i : ℕ) (v : Spread f s n first whole old place out to pos i) where
     module _ (h : i < n) (next : ℕ) (e : next ≡ word32 s pos) where
@@ -97,11 +97,11 @@ module _ (f : ℕ → List Event) (s : List ℕ) (n first : ℕ) (whole : Bool) 
           let m = r.1 in
           record { room = omega (arith, r.0); all = λ q. let d = v.all q in omega (arith, dropped_split) }
 
-      pub spread_step : {r : ℕ} {new : List ℕ} → Filled (kept_of (f next)) out to r new → Spread f s n first whole old place new r (pos + 4) (i + 1)
-      spread_step {r} {new} p = record {
+      pub spread_step : {r : ℕ} {new : List ℕ} → Filled (kept_of (f next)) out to r new → (at : ℕ) → at ≡ pos + 4 → Spread f s n first whole old place new r at (i + 1)
+      spread_step {r} {new} p at b = rw b (record {
         spreading = spreading_step (numbers (length old)) f s n first (old, place) (out, to) pos i v.spreading h e {y = (new, r)} p;
         all = λ q. let d = v.all q in omega (arith, dropped_split);
-      }
+      })
 
     pub spread_long : length out ≡ length old
     spread_long = v.spreading.going.ready.0
@@ -116,15 +116,15 @@ pub fill_deep : (hd : ℕ → ℕ → Paper Listed) (levels : ℕ) (s : List ℕ
 fill_deep hd levels s base offset e {old} {place} = goes_nowhere (numbers (length old)) (old, place) (kept_deep hd levels s base offset e)
 
 module _ (hd : ℕ → ℕ → Paper Listed) (levels : ℕ) (s : List ℕ) (base offset : ℕ) (h : levels ≡ 0 → ⊥) where
-  pub fill_bad : {g : Refusal} → hd levels (offset + base) ≡ list_paper (found.Refused g) → {old : List ℕ} {place : ℕ}
+  pub fill_bad : (g : Refusal) → hd levels (offset + base) ≡ list_paper (Err g) → {old : List ℕ} {place : ℕ}
       → Filled (kept_of (trace hd levels s base offset)) old place place old
-  fill_bad e {old} {place} = goes_nowhere (numbers (length old)) (old, place) (kept_bad hd levels s base offset h e)
+  fill_bad g e {old} {place} = goes_nowhere (numbers (length old)) (old, place) (kept_bad hd levels s base offset h g e)
 
-  module _ {l : LeafList} (e : hd levels (offset + base) ≡ list_paper (found.Leaf l)) where
+  module _ {kind size n : ℕ} (e : hd levels (offset + base) ≡ success (leaf kind size n)) where
     abbrev row : List ℕ
-    row = leaf_kept s base l.entry_size l.count (offset + base + 8)
+    row = leaf_kept s base size n (offset + base + 8)
 
-    dropped_leaf : dropped_of (trace hd levels s base offset) ≡ leaf_dropped s base l.entry_size l.count (offset + base + 8)
+    dropped_leaf : dropped_of (trace hd levels s base offset) ≡ leaf_dropped s base size n (offset + base + 8)
     unfolding below total dropped_in
     dropped_leaf = rw (trace_in hd levels s base offset h, e) (omega arith)
 
@@ -132,13 +132,13 @@ module _ (hd : ℕ → ℕ → Paper Listed) (levels : ℕ) (s : List ℕ) (base
       pub leaf_room : place + length row ≤ length old
       leaf_room = (ready_as (numbers (length old)) {x = (old, place)} (kept_leaf hd levels s base offset h e) (refl, v.room)).1
 
-      pub leaf-whole : Whole s base l.entry_size l.count (offset + base + 8) whole
+      pub leaf-whole : Whole s base size n (offset + base + 8) whole
       leaf-whole q = sym dropped_leaf ∙ v.all q
 
     pub fill_leaf : {old : List ℕ} {place r : ℕ} {new : List ℕ} → Filled row old place r new → Filled (kept_of (trace hd levels s base offset)) old place r new
     fill_leaf {old} {place} {r} {new} f = goes_as (numbers (length old)) {x = (old, place)} {y = (new, r)} (kept_leaf hd levels s base offset h e) f
 
-  module _ {l : IndexList} (e : hd levels (offset + base) ≡ list_paper (found.Index l)) where
+  module _ {l : IndexList} (e : hd levels (offset + base) ≡ list_paper (Ok (found.Index l))) where
     abbrev inner : List Event
     inner = each (trace hd (levels - 1) s base) s l.count (offset + base + 8)
 

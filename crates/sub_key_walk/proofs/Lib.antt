@@ -12,7 +12,6 @@ pub mod Exactly
 pub mod Demand
 pub mod Dropped
 pub mod Examples
-pub mod Pairs
 pub mod Pieces
 pub mod Entries
 pub mod Most

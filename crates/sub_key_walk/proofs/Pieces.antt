@@ -6,7 +6,6 @@ use native.Mathlib.Nat.{zero-add, mul-zero, mul-one, mul-suc, mul-add}
 use native.Mathlib.Omega.{arith}
 use borrow.Author.Tests.{leb-true}
 use lib.Dec.{leb}
-use lib.ListN.{length}
 use lib.Bits.{bit_or, or_add_and, and_le_l, and_le_r}
 use Rattle.words.specs.Words.{word32}
 use Rattle.sub_key_list.specs.Leaves.{keep, leaf_kept, leaf_dropped}
@@ -21,7 +20,7 @@ leaf-one s base size pos = refl
 
 -- ---- `k` entries and `m` behind them
 
-times_next : (size i : ℕ) → size * (i + 1) ≡ size * i + size
+pub times_next : (size i : ℕ) → size * (i + 1) ≡ size * i + size
 times_next size i = mul-add size i 1 ∙ ap (λ (x : ℕ). size * i + x) (mul-one size)
 
 module _ (s : List ℕ) (size : ℕ) where
@@ -58,12 +57,6 @@ module _ (s : List ℕ) (size : ℕ) where
     pub rest_there : Entries s size m (pos + size * k)
     rest_there = let l = w.inside in record { word = w.word; inside = omega (arith, all_there) }
 
-  -- entry `i` is there
-  entry_inside : (n i pos at : ℕ) → Entries s size n pos → i < n → at ≡ pos + size * i → (4 ≤ size) × (at + size ≤ length s)
-  entry_inside n i pos at w h e =
-      let l = (first_there n (i + 1) (n - (i + 1)) pos (omega arith) w).inside in
-      (w.word, omega (arith, times_next size i))
-
 -- ---- a bound of the offsets
 
 or_left : (a b : ℕ) → a ≤ bit_or a b
@@ -89,44 +82,29 @@ module _ (s : List ℕ) (size : ℕ) where
   bound_next k pos at a v p e q =
       bound_append k 1 pos a v p (subst (λ (x : ℕ). Bound s size 1 x v) e (rw q (bound_one at)))
 
--- ---- the bound in two streams, `i` entries of each half taken: `near` of those from `at`, `further` of those from `far`
+-- ---- the bound in two streams, `i` entries of each half taken: `near` of the first half, `further` of the second
 
-pub record Bounding (s : List ℕ) (size half first at far near further i : ℕ) : Type 0 where
+pub record Bounding (s : List ℕ) (size half first near further i : ℕ) : Type 0 where
   pub within : i ≤ half
-  pub at_is : at ≡ first + size * i
-  pub far_is : far ≡ first + size * half + size * i
   pub nears : Bound s size i first near
   pub fars : Bound s size i (first + size * half) further
 
 module _ (s : List ℕ) (size n half first : ℕ) (w : Entries s size n first) (two : half + half ≤ n) where
-  pub bounding_start : Bounding s size half first first (first + size * half) 0 0 0
+  pub bounding_start : Bounding s size half first 0 0 0
   bounding_start =
       record {
         within = omega arith;
-        at_is = behind-none s size first;
-        far_is = behind-none s size (first + size * half);
         nears = bound_none s size first;
         fars = bound_none s size (first + size * half);
       }
 
-  module _ (at far near further i : ℕ) (b : Bounding s size half first at far near further i) where
-    -- the next entry of each half is there
-    pub near_there : i < half → (4 ≤ size) × (at + size ≤ length s)
-    near_there h = entry_inside s size n i first at w (omega arith) b.at_is
-
-    pub far_there : half + i < n → (4 ≤ size) × (far + size ≤ length s)
-    far_there h = let y = b.far_is in entry_inside s size n (half + i) first far w h (omega (arith, mul-add size half i))
-
-    pub bounding_step : i < half → {v u : ℕ} → v ≡ word32 s at → u ≡ word32 s far → Bounding s size half first (at + size) (far + size) (bit_or near v) (bit_or further u) (i + 1)
+  module _ (near further i : ℕ) (b : Bounding s size half first near further i) where
+    pub bounding_step : i < half → {v u : ℕ} → v ≡ word32 s (first + size * i) → u ≡ word32 s (first + size * half + size * i) → Bounding s size half first (bit_or near v) (bit_or further u) (i + 1)
     bounding_step h {v} {u} p q =
-        let x = b.at_is in
-        let y = b.far_is in
         record {
           within = omega arith;
-          at_is = omega (arith, times_next size i);
-          far_is = omega (arith, times_next size i);
-          nears = bound_next s size i first at near v b.nears b.at_is p;
-          fars = bound_next s size i (first + size * half) far further u b.fars b.far_is q;
+          nears = bound_next s size i first _ near v b.nears refl p;
+          fars = bound_next s size i (first + size * half) _ further u b.fars refl q;
         }
 
     module _ (h : half ≤ i) where
@@ -139,10 +117,11 @@ module _ (s : List ℕ) (size n half first : ℕ) (w : Entries s size n first) (
       bounding_even l {u} e = let x = b.within in both i u (omega arith) (rw e b.fars)
 
       -- where an entry is left over
-      pub bounding_odd : n ≡ half + half + 1 → {u v : ℕ} → v ≡ word32 s far → u ≡ bit_or further v → Bound s size n first (bit_or near u)
+      pub bounding_odd : n ≡ half + half + 1 → {u v : ℕ} → v ≡ word32 s (first + size * half + size * half) → u ≡ bit_or further v → Bound s size n first (bit_or near u)
       bounding_odd l {u} {v} q e =
           let x = b.within in
-          both (i + 1) u (omega arith) (rw e (bound_next s size i (first + size * half) far further v b.fars b.far_is q))
+          let d : half ≡ i = omega arith in
+          both (i + 1) u (omega arith) (rw e (bound_next s size i (first + size * half) _ further v b.fars (ap (λ (j : ℕ). first + size * half + size * j) d) q))
 
 -- a bound that stays within 32 bits with a base: none is dropped
 pub bound_whole : (s : List ℕ) (base size n pos r : ℕ) → base ≤ 4294967295 → Bound s size n pos r → Whole s base size n pos (leb r (4294967295 - base))

@@ -12,10 +12,10 @@ use lib.Dec.{ltb, eqb}
 use lib.ListN.{length}
 use Rattle.words.specs.Words.{word32}
 use Rattle.words.specs.Refusals.{BAD_SIZE, TOO_MANY, BAD_BUDGET, TOO_DEEP, OUT_OF_STEPS, NOT_PERMITTED}
-use Rattle.words.specs.Buffers.{in_room, buffer_after, Answered}
+use Rattle.words.specs.Buffers.{in_room, buffer_after}
 use Rattle.words.specs.Paper.{Told, Paper, success, refused, by, on_success}
 use Rattle.words.proofs.Papers.{success-refused, same-told}
-use Rattle.words.proofs.Buffers.{room_refused, room_success, other_of, answered_refused, untouched}
+use Rattle.words.proofs.Buffers.{room_refused, room_success, other_of, untouched}
 use Rattle.sub_key_list.specs.Lists.{Listed, list_at}
 use Rattle.sub_key_list.specs.Lists as lists
 use Rattle.sub_key_list.specs.Leaves.{leaf_of, only_leaf, leaf_at}
@@ -31,22 +31,24 @@ use Rattle.sub_key_walk.specs.Strict.{strict, strict_from, strict_measured, Stri
 use Rattle.sub_key_walk.specs.Leaf.{leaf_in_room, leaf_paper, LeafAnsweredAs, LeafAnswered}
 use Rattle.sub_key_walk.specs.Profiles.{Walks, SubKeys, LeafSubKeys}
 use Rattle.sub_key_walk.specs.Profiles as profiles
-use Rattle.sub_key_walk.specs.Walk.{reading}
+use Rattle.sub_key_walk.specs.Walk.{reading_by, walk_by}
+use Rattle.sub_key_walk.specs.declared.Profile.{Profile}
+use Rattle.sub_key_walk.specs.declared.Profile.TheVariants.{Ordinary, Strict}
 use Rattle.sub_key_walk.specs.declared.Counts.{Counts}
-use Rattle.sub_key_walk.specs.declared.LeafAnswer.{LeafAnswer}
 use Rattle.sub_key_walk.specs.declared.WalkRefusal.{WalkRefusal}
-use Rattle.sub_key_walk.specs.declared.WalkAnswer.{WalkAnswer}
-use Rattle.sub_key_walk.specs.declared.WalkAnswer.TheVariants.{Read, Refused}
 use Rattle.sub_key_walk.proofs.Walks.{trace_in, judge-append, levels_left, named_left}
 use Rattle.sub_key_walk.proofs.Papers.{paper_injective, leaf_answers_determined}
 use Rattle.sub_key_walk.proofs.Traces.{append_all, index_is_ri}
 use Rattle.sub_key_walk.proofs.Refusals.{Sound, record_every}
 use Rattle.sub_key_walk.proofs.Judged.{judge_lists}
+use Rattle.std.specs.Prelude.{Ok, Err}
+use Rattle.std.specs.declared.result.Result.{Result}
+use Rattle.sub_key_walk.specs.declared.LeafRead.{LeafRead}
 
 -- what either way of reading accepts stands there
-pub reading_read : (strictly : Bool) (s : List ℕ) (minor levels p : ℕ) {l : Listed} → reading strictly s minor levels p ≡ success l → list_at s p ≡ success l
-reading_read true s minor levels p {l} e = (accepted s minor (ltb levels LEVELS) p l e).0
-reading_read false s minor levels p e = e
+pub reading_read : (profile : Profile) (s : List ℕ) (levels p : ℕ) {l : Listed} → reading_by profile s levels p ≡ success l → list_at s p ≡ success l
+reading_read Ordinary s levels p e = e
+reading_read (Strict minor) s levels p {l} e = (accepted s minor (ltb levels LEVELS) p l e).0
 
 -- ---- two rows of lists: the same, or the same up to a list that the first one refuses besides
 
@@ -291,7 +293,7 @@ module _ (s : List ℕ) (base count list budget minor : ℕ) where
   -- with no regard to room or with it: `f` is what room makes of an answer, which keeps every refusal and gives none for depth
   module _ (f : Paper Counts → Paper Counts) (keeps : (x : Told) → f (refused x) ≡ refused x)
       (own : (a : Paper Counts) (t : Told) → f a ≡ refused t → t.number ≡ TOO_DEEP → a ≡ refused t)
-      (r o : WalkAnswer) (x : walk_paper r ≡ f strictly) (y : walk_paper o ≡ f plainly) where
+      (r o : (Result Counts WalkRefusal)) (x : walk_paper r ≡ f strictly) (y : walk_paper o ≡ f plainly) where
     walks : Walks budget r o
     walks = record {
       accepts = λ t q. yes t q (beside count budget _ _ (strict_rows s base list minor));
@@ -310,12 +312,12 @@ module _ (s : List ℕ) (base count list budget minor : ℕ) where
         alike_refused : (u : Told) → strictly ≡ refused u → plainly ≡ refused u → o ≡ r
         alike_refused u d e = paper_injective o r (y ∙ ap f (e ∙ sym d) ∙ sym x)
 
-        yes : (t : Counts) → r ≡ Read t → Beside count budget (strict_from s base list minor) (walk_from s base list) → o ≡ r
+        yes : (t : Counts) → r ≡ Ok t → Beside count budget (strict_from s base list minor) (walk_from s base list) → o ≡ r
         yes t q (no_part d e) = alike_both d
         yes t q (both_refused u d e) = alike_refused u d e
         yes t q (is_new u p l a n e) = absurd (success-refused (sym (ap walk_paper q) ∙ refusal (fault u.number u.position l) e))
 
-        no_by : (g : WalkRefusal) → r ≡ Refused g → Beside count budget (strict_from s base list minor) (walk_from s base list) → (o ≡ r) ⊎ (profiles.Added g × (g.lists < budget))
+        no_by : (g : WalkRefusal) → r ≡ Err g → Beside count budget (strict_from s base list minor) (walk_from s base list) → (o ≡ r) ⊎ (profiles.Added g × (g.lists < budget))
         no_by g q (no_part d e) = inl (alike_both d)
         no_by g q (both_refused u d e) = inl (alike_refused u d e)
         no_by g q (is_new u p l (inl a) n e) =
@@ -330,11 +332,11 @@ module _ (s : List ℕ) (base count list budget minor : ℕ) where
             inr (inr (z ∙ ap (λ (v : ℕ). fault BAD_SIZE v l) (sym j) ∙ ap (fault BAD_SIZE g.position) (sym k)), omega arith)
 
   -- any answers that the contracts of `strict_sub_key_counts` and of `sub_key_counts` allow
-  pub counts_profiles : (r o : WalkAnswer) → walk_paper r ≡ strict_measured s base count list budget minor → walk_paper o ≡ measured s base count list budget → Walks budget r o
+  pub counts_profiles : (r o : (Result Counts WalkRefusal)) → walk_paper r ≡ strict_measured s base count list budget minor → walk_paper o ≡ measured s base count list budget → Walks budget r o
   counts_profiles r o x y = walks (λ a. a) (λ u. refl) (λ a t e n. e) r o x y
 
   -- any answers and buffers that the contracts of `strict_sub_keys` and of `sub_keys` allow
-  pub sub_keys_profiles : (old : List ℕ) (r : WalkAnswer) (new : List ℕ) (o : WalkAnswer) (made : List ℕ)
+  pub sub_keys_profiles : (old : List ℕ) (r : (Result Counts WalkRefusal)) (new : List ℕ) (o : (Result Counts WalkRefusal)) (made : List ℕ)
       → StrictAnswered s base count list budget minor old r new → WalkAnswered s base count list budget old o made → SubKeys budget old r new o made
   sub_keys_profiles old r new o made x y = record {
     answers = walks (in_room full_of (length old)) (room_refused full_of (length old)) (λ a t e n. other_of full_of (length old) a (λ v. refl) e (λ m. omega arith)) r o x.answer y.answer;
@@ -346,36 +348,17 @@ module _ (s : List ℕ) (base count list budget minor : ℕ) where
     untouched = λ g q. untouched x (ap walk_paper q);
   }
 
--- what `strict_sub_keys` promises, from what it counts
-module _ (s : List ℕ) (base count list budget minor : ℕ) (old : List ℕ) {w : WalkAnswer} (k : walk_paper w ≡ strict_measured s base count list budget minor) where
-  pub strict-refused : {f : WalkRefusal} → w ≡ Refused f → StrictAnswered s base count list budget minor old (Refused f) old
-  strict-refused {f} q = answered_refused refl (ap (in_room full_of (length old)) (sym k ∙ ap walk_paper q) ∙ room_refused full_of (length old) (walk_told f))
-
-  -- what is accepted is counted as in the ordinary way
-  pub accepted_counts : {t : Counts} → w ≡ Read t → walk_paper w ≡ measured s base count list budget
-  accepted_counts {t} q = k ∙ (accepted_same s base count list budget minor t (sym k ∙ ap walk_paper q)).0
-
-  -- and answered so
-  pub strict_accepted : {t : Counts} → w ≡ Read t → (r : WalkAnswer) (new : List ℕ) → WalkAnswered s base count list budget old r new
-      → StrictAnswered s base count list budget minor old r new
-  strict_accepted {t} q r new x =
-      let e = accepted_same s base count list budget minor t (sym k ∙ ap walk_paper q) in
-      subst (λ (es : List Event). Answered (walk_paper r) (in_room full_of (length old) (strictly s base count list budget minor)) (kept_of es) old new) (sym e.1)
-      (subst (λ (a : Paper Counts). Answered (walk_paper r) (in_room full_of (length old) a) (kept_by s base count list) old new) (sym e.0) x)
+-- whichever way the lists are read: a walk that succeeds reaches what the ordinary one reaches
+pub reached_alike : (profile : Profile) (s : List ℕ) (base count list budget : ℕ) (t : Counts) → from_record count budget (walk_by profile s base list) ≡ success t
+    → reached_for count (walk_by profile s base list) ≡ reached_for count (walk_from s base list)
+reached_alike Ordinary s base count list budget t e = refl
+reached_alike (Strict minor) s base count list budget t e = (accepted_same s base count list budget minor t e).1
 
 -- ---- one leaf list
 
 module _ (s : List ℕ) (base p minor : ℕ) (old : List ℕ) where
-  -- what is accepted is read as in the ordinary way
-  leaf-same : {l : Listed} → strict_at s minor false p ≡ success l → strict_at s minor false p ≡ list_at s p
-  leaf-same {l} e = e ∙ sym (accepted s minor false p l e).0
-
-  pub strict-leaf : {l : Listed} → strict_at s minor false p ≡ success l → (r : LeafAnswer) (new : List ℕ) → LeafAnswered s base p old r new
-      → StrictLeafAnswered s base p minor old r new
-  strict-leaf e r new x = subst (λ (a : Paper Listed). LeafAnsweredAs (only_leaf s base p a) old r new) (sym (leaf-same e)) x
-
   -- any answers and buffers that the contracts of `strict_leaf_sub_keys` and of `leaf_sub_keys` allow
-  pub leaf_profiles : (r : LeafAnswer) (new : List ℕ) (o : LeafAnswer) (made : List ℕ) → StrictLeafAnswered s base p minor old r new → LeafAnswered s base p old o made
+  pub leaf_profiles : (r : (Result LeafRead WalkRefusal)) (new : List ℕ) (o : (Result LeafRead WalkRefusal)) (made : List ℕ) → StrictLeafAnswered s base p minor old r new → LeafAnswered s base p old o made
       → LeafSubKeys old r new o made
   unfolding in_room on_success only_leaf
   leaf_profiles r new o made x y = go (either s minor false p)
@@ -401,3 +384,8 @@ module _ (s : List ℕ) (base p minor : ℕ) (old : List ℕ) where
           told-added f w (inr a) =
               let z = w ∙ a in
               inr (z ∙ ap (λ (v : ℕ). fault BAD_SIZE v 0) (sym (ap (λ (v : Told). v.position) z)) ∙ ap (fault BAD_SIZE f.position) (sym (ap (λ (v : Told). v.lists) z)))
+
+-- what is accepted is counted as in the ordinary way, of any answer
+module _ (s : List ℕ) (base count list budget minor : ℕ) {w : Result Counts WalkRefusal} (k : walk_paper w ≡ strict_measured s base count list budget minor) where
+  pub accepted_counts : {t : Counts} → w ≡ Ok t → walk_paper w ≡ measured s base count list budget
+  accepted_counts {t} q = k ∙ (accepted_same s base count list budget minor t (sym k ∙ ap walk_paper q)).0

@@ -8,11 +8,10 @@ use native.Mathlib.Nat.{sub-zero, mul-one}
 use native.Mathlib.Omega.{arith}
 use lib.ListN.{length}
 use Rattle.words.specs.Words.{word32}
-use Rattle.words.specs.Paper.{Paper}
+use Rattle.words.specs.Paper.{Paper, success}
 use Rattle.words.specs.declared.Refusal.{Refusal}
-use Rattle.sub_key_list.specs.Lists.{Listed, list_paper}
+use Rattle.sub_key_list.specs.Lists.{Listed, list_paper, leaf}
 use Rattle.sub_key_list.specs.Leaves.{keep, leaf_kept}
-use Rattle.sub_key_list.specs.declared.LeafList.{LeafList}
 use Rattle.sub_key_list.specs.declared.IndexList.{IndexList}
 use Rattle.sub_key_list.specs.declared.SubKeyList.TheVariants as found
 use Rattle.sub_key_list.proofs.Leaves.{leaf-none}
@@ -20,6 +19,7 @@ use Rattle.sub_key_walk.specs.Trace.{Event, each, below, trace, kept_in, kept_of
 use Rattle.sub_key_walk.specs.Walk.{Entries}
 use Rattle.sub_key_walk.proofs.Walks.{trace-deep, trace_in, each_next, each_none, kept_append}
 use Rattle.sub_key_walk.proofs.Pieces.{leaf-one, leaf-append, first_there, rest_there}
+use Rattle.std.specs.Prelude.{Ok, Err}
 
 -- `Goes ks x y`: the offsets `ks` lead from the state `x` to `y`. `Ready ks x`: in `x` there is room for them.
 pub record Use (X : Type 0) : Type 1 where
@@ -160,16 +160,16 @@ unfolding kept_of kept_in
 kept_deep hd levels s base offset e = ap kept_of (trace-deep hd levels s base offset e)
 
 module _ (hd : ℕ → ℕ → Paper Listed) (levels : ℕ) (s : List ℕ) (base offset : ℕ) (h : levels ≡ 0 → ⊥) where
-  pub kept_bad : {g : Refusal} → hd levels (offset + base) ≡ list_paper (found.Refused g) → kept_of (trace hd levels s base offset) ≡ []
+  pub kept_bad : (g : Refusal) → hd levels (offset + base) ≡ list_paper (Err g) → kept_of (trace hd levels s base offset) ≡ []
   unfolding below kept_of kept_in
-  kept_bad e = rw (trace_in hd levels s base offset h, e)
+  kept_bad g e = rw (trace_in hd levels s base offset h, e)
 
-  pub kept_leaf : {l : LeafList} → hd levels (offset + base) ≡ list_paper (found.Leaf l)
-      → kept_of (trace hd levels s base offset) ≡ leaf_kept s base l.entry_size l.count (offset + base + 8)
+  pub kept_leaf : {kind size n : ℕ} → hd levels (offset + base) ≡ success (leaf kind size n)
+      → kept_of (trace hd levels s base offset) ≡ leaf_kept s base size n (offset + base + 8)
   unfolding below kept_of kept_in
   kept_leaf e = rw (trace_in hd levels s base offset h, e) (append-nil _)
 
-  pub kept_index : {l : IndexList} → hd levels (offset + base) ≡ list_paper (found.Index l)
+  pub kept_index : {l : IndexList} → hd levels (offset + base) ≡ list_paper (Ok (found.Index l))
       → kept_of (trace hd levels s base offset) ≡ kept_of (each (trace hd (levels - 1) s base) s l.count (offset + base + 8))
   unfolding below kept_of kept_in
   kept_index e = rw (trace_in hd levels s base offset h, e)

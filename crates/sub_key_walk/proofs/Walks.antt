@@ -10,8 +10,8 @@ use lib.Dec.{eqb}
 use Rattle.words.specs.Words.{word32}
 use Rattle.words.specs.Refusals.{TOO_DEEP, OUT_OF_STEPS}
 use Rattle.words.specs.Paper.{Told, Paper, success, refused}
-use Rattle.words.proofs.Papers.{success-refused}
-use Rattle.sub_key_list.specs.Lists.{Listed, list_at, list_paper}
+use Rattle.words.proofs.Papers.{success-refused, same-ok}
+use Rattle.sub_key_list.specs.Lists.{word_of, Listed, list_at, list_paper}
 use Rattle.sub_key_list.specs.Lists as lists
 use Rattle.sub_key_list.specs.Leaves.{leaf_of, leaf_dropped}
 use Rattle.sub_key_list.specs.declared.LeafList.{LeafList}
@@ -20,16 +20,17 @@ use Rattle.sub_key_list.specs.declared.SubKeyList.{SubKeyList}
 use Rattle.sub_key_list.specs.declared.SubKeyList.TheVariants as found
 use Rattle.words.specs.declared.Refusal.{Refusal}
 use Rattle.sub_key_list.proofs.Leaves.{leaf_all}
-use Rattle.sub_key_walk.specs.Trace.{Event, deep, index, leaf, each, below, trace, ordinary, LEVELS, walk_from, kept_in, kept_of, lists_in, entries_in, dropped_in, total}
+use Rattle.sub_key_walk.specs.Trace.{Event, deep, index, leaf, each, below, trace, LEVELS, kept_in, kept_of, lists_in, entries_in, dropped_in, total}
 use Rattle.sub_key_walk.specs.Judge.{fault, counts, counted, in_budget, one, after, judge}
-use Rattle.sub_key_walk.specs.Answers.{BUDGET_LIMIT, none, walk_paper}
+use Rattle.sub_key_walk.specs.Answers.{BUDGET_LIMIT, none, walk_told, walk_paper}
 use Rattle.sub_key_walk.specs.Leaf.{read_of}
-use Rattle.sub_key_walk.specs.Walk.{Bounded, Small, so_far, with_leaf, Walk}
+use Rattle.sub_key_walk.specs.Walk.{Bounded, Small, with_index, with_leaf, Walk}
 use Rattle.sub_key_walk.specs.declared.Counts.{Counts}
 use Rattle.sub_key_walk.specs.declared.LeafRead.{LeafRead}
 use Rattle.sub_key_walk.specs.declared.WalkRefusal.{WalkRefusal}
-use Rattle.sub_key_walk.specs.declared.WalkAnswer.{WalkAnswer}
-use Rattle.sub_key_walk.specs.declared.WalkAnswer.TheVariants.{Read, Refused}
+use Rattle.std.specs.Prelude.{Ok, Err}
+use Rattle.std.specs.declared.result.Result.{Result}
+use Rattle.words.specs.Paper.{number_of}
 
 -- ---- traces
 
@@ -141,36 +142,20 @@ module _ (hd : ℕ → ℕ → Paper Listed) (budget : ℕ) (st : Counts) where
 -- ---- what a walk gives
 
 -- an answer that is refused is no success
-refused_read : {r : WalkAnswer} {x : Told} {t : Counts} → walk_paper r ≡ refused x → r ≡ Read t → ⊥
+refused_read : {r : (Result Counts WalkRefusal)} {x : Told} {t : Counts} → walk_paper r ≡ refused x → r ≡ Ok t → ⊥
 refused_read e q = success-refused (sym (ap walk_paper q) ∙ e)
 
-pub same_read : {t u : Counts} → Read t ≡ Read u → t ≡ u
-same_read q = cc
-
 module _ (budget : ℕ) (st : Counts) (es : List Event) where
-  walk_refused : {r : WalkAnswer} {x : Told} → walk_paper r ≡ refused x → refused x ≡ judge budget st es → Walk budget st es r
+  walk_refused : {r : (Result Counts WalkRefusal)} {x : Told} → walk_paper r ≡ refused x → refused x ≡ judge budget st es → Walk budget st es r
   walk_refused e f = record { answer = e ∙ f; bounded = λ t q. absurd (refused_read e q) }
 
-  walk_read : {r : WalkAnswer} (t : Counts) → r ≡ Read t → success t ≡ judge budget st es → Bounded budget t → Walk budget st es r
-  walk_read t p e b = record { answer = ap walk_paper p ∙ e; bounded = λ u q. subst (Bounded budget) (same_read (sym p ∙ q)) b }
-
--- what a walk that succeeds says of the definition
-pub walk_success : {budget : ℕ} {st : Counts} {es : List Event} {r : WalkAnswer} {t : Counts}
-    → Walk budget st es r → r ≡ Read t → judge budget st es ≡ success t
-walk_success w q = sym w.answer ∙ ap walk_paper q
+  walk_read : {r : (Result Counts WalkRefusal)} (t : Counts) → r ≡ Ok t → success t ≡ judge budget st es → Bounded budget t → Walk budget st es r
+  walk_read t p e b = record { answer = ap walk_paper p ∙ e; bounded = λ u q. subst (Bounded budget) (same-ok (sym p ∙ q)) b }
 
 -- ---- the counts
 
 pub counts_path : {a b : Counts} → a.kept ≡ b.kept → a.lists ≡ b.lists → a.entries ≡ b.entries → a.dropped ≡ b.dropped → a ≡ b
 counts_path p q r d = λ i. record { kept = p i; lists = q i; entries = r i; dropped = d i }
-
--- of small counts three tell the fourth
-so_far_lem : {budget : ℕ} {t : Counts} → Bounded budget t → so_far t.lists t.entries t.dropped ≡ t
-so_far_lem b = counts_path (omega (arith, b.every)) refl refl refl
-
--- an `ri` list counts as a list and gives nothing else
-abbrev pub with_index : Counts → Counts
-with_index st = counts st.kept (st.lists + 1) st.entries st.dropped
 
 index-counted : (st : Counts) (p n : ℕ) → with_index st ≡ counted st (index p n)
 unfolding counted kept_in lists_in entries_in dropped_in
@@ -185,8 +170,8 @@ pub record Indexing (budget : ℕ) (f : ℕ → List Event) (s : List ℕ) (n fi
   pub few : Bounded budget sum
 
 module _ (budget : ℕ) (f : ℕ → List Event) (s : List ℕ) (n first : ℕ) (st : Counts) where
-  pub indexing_start : Bounded budget st → Indexing budget f s n first st st first 0
-  indexing_start b = record { within = omega arith; near = omega arith; judged = rw sub-zero; few = b }
+  pub indexing_start : Bounded budget st → (pos : ℕ) → pos ≡ first → Indexing budget f s n first st st pos 0
+  indexing_start b pos e = rw e (record { within = omega arith; near = omega arith; judged = rw sub-zero; few = b })
 
   module _ (sum : Counts) (pos i : ℕ) (v : Indexing budget f s n first st sum pos i) where
     module _ (h : i < n) (next : ℕ) (e : next ≡ word32 s pos) where
@@ -200,16 +185,15 @@ module _ (budget : ℕ) (f : ℕ → List Event) (s : List ℕ) (n first : ℕ) 
           ap (λ (x : Paper Counts). after x (λ st'. judge budget st' rest)) (sym q) ∙ sym (judge-append budget sum (f next) rest)
           ∙ ap (judge budget sum) (sym split) ∙ v.judged
 
-      pub indexing_step : (r : WalkAnswer) (t : Counts) → Walk budget sum (f next) r → r ≡ Read t
-          → Indexing budget f s n first st (so_far t.lists t.entries t.dropped) (pos + 4) (i + 1)
+      pub indexing_step : (t : Counts) → Walk budget sum (f next) (Ok t)
+          → (at : ℕ) → at ≡ pos + 4 → Indexing budget f s n first st t at (i + 1)
       unfolding after
-      indexing_step r t w q =
-          subst (λ (u : Counts). Indexing budget f s n first st u (pos + 4) (i + 1)) (sym (so_far_lem (w.bounded t q)))
-          (record { within = omega arith; near = omega (arith, v.near); judged = onward (success t) (walk_success w q); few = w.bounded t q })
+      indexing_step t w at b =
+          rw b (record { within = omega arith; near = omega (arith, v.near); judged = onward (success t) (sym w.answer); few = w.bounded t refl })
 
-      indexing_refused : {r : WalkAnswer} {x : Told} → Walk budget sum (f next) r → walk_paper r ≡ refused x → refused x ≡ judge budget st (each f s n first)
+      indexing_refused : (g : WalkRefusal) → Walk budget sum (f next) (Err g) → refused (walk_told g) ≡ judge budget st (each f s n first)
       unfolding after
-      indexing_refused {r} {x} w q = onward (refused x) (sym w.answer ∙ q)
+      indexing_refused g w = onward (refused (walk_told g)) (sym w.answer)
 
     indexing_answer : n ≤ i → success sum ≡ judge budget st (each f s n first)
     unfolding judge
@@ -217,7 +201,7 @@ module _ (budget : ℕ) (f : ℕ → List Event) (s : List ℕ) (n first : ℕ) 
 
 -- ---- the answers of a walk, each from what its code has found
 
-module _ (hd : ℕ → ℕ → Paper Listed) (budget : ℕ) (st : Counts) (levels : ℕ) (s : List ℕ) (base offset : ℕ) {r : WalkAnswer} where
+module _ (hd : ℕ → ℕ → Paper Listed) (budget : ℕ) (st : Counts) (levels : ℕ) (s : List ℕ) (base offset : ℕ) {r : (Result Counts WalkRefusal)} where
   pub walk_deep : walk_paper r ≡ refused (fault TOO_DEEP (offset + base) st.lists) → levels ≡ 0 → Walk budget st (trace hd levels s base offset) r
   walk_deep e z = walk_refused budget st (trace hd levels s base offset) e (judge-deep hd budget st levels s base offset z)
 
@@ -229,67 +213,64 @@ module _ (hd : ℕ → ℕ → Paper Listed) (budget : ℕ) (st : Counts) (level
 pub leaf_small : (s : List ℕ) (base p size n : ℕ) {t : LeafRead} → n < 65536 → t ≡ read_of (leaf_of s base p size n) → Small t
 leaf_small s base p size n m d = subst Small (sym d) (record { every = leaf_all s base size n (p + 8); few = omega arith })
 
+-- another list can be counted
+pub reached_small : {budget : ℕ} {st : Counts} → (st.lists ≡ budget → ⊥) → Bounded budget st → budget ≤ BUDGET_LIMIT → Bounded 65535 st
+reached_small u few m = record { every = omega arith; some_entries = omega arith; some_lists = omega arith }
+
 -- a list is reached within the levels and the budget, at small counts, and `g` is what the code finds there
-pub record Reached (hd : ℕ → ℕ → Paper Listed) (budget : ℕ) (st : Counts) (levels : ℕ) (s : List ℕ) (base offset : ℕ) (g : SubKeyList) : Type 0 where
+pub record Reached (hd : ℕ → ℕ → Paper Listed) (budget : ℕ) (st : Counts) (levels : ℕ) (s : List ℕ) (base offset : ℕ) (g : (Result SubKeyList Refusal)) : Type 0 where
   pub deeper : levels ≡ 0 → ⊥
   pub unspent : st.lists ≡ budget → ⊥
   pub few : Bounded budget st
   pub is : hd levels (offset + base) ≡ list_paper g
 
 module _ {hd : ℕ → ℕ → Paper Listed} {budget : ℕ} {st : Counts} {levels : ℕ} {s : List ℕ} {base offset : ℕ} where
-  pub walk_bad : {g : Refusal} → Reached hd budget st levels s base offset (found.Refused g) → {r : WalkAnswer}
-      → walk_paper r ≡ refused (fault g.number g.position st.lists) → Walk budget st (trace hd levels s base offset) r
+  pub walk_bad : {g : Refusal} → Reached hd budget st levels s base offset (Err g) → {r : (Result Counts WalkRefusal)}
+      → walk_paper r ≡ refused (fault (number_of g.reason) g.position st.lists) → Walk budget st (trace hd levels s base offset) r
   walk_bad {g} x e =
       walk_refused budget st (trace hd levels s base offset) e
       (judge-bad hd budget st levels s base offset x.deeper x.unspent _ x.is)
 
-  -- another list can be counted
-  pub reached_small : {g : SubKeyList} → Reached hd budget st levels s base offset g → budget ≤ BUDGET_LIMIT → Bounded 65535 st
-  reached_small x m =
-      let u : st.lists ≡ budget → ⊥ = x.unspent in
-      let few : Bounded budget st = x.few in
-      record { every = omega arith; some_entries = omega arith; some_lists = omega arith }
-
   -- a leaf list that is counted keeps the counts small
-  pub walk_leaf : {l : LeafList} → Reached hd budget st levels s base offset (found.Leaf l) → l.count < 65536
-      → {t : LeafRead} → t ≡ read_of (leaf_of s base (offset + base) l.entry_size l.count)
-      → {w : WalkAnswer} → w ≡ Read (with_leaf st t) → Walk budget st (trace hd levels s base offset) w
+  pub walk_leaf : {l : LeafList} → Reached hd budget st levels s base offset (Ok (found.Leaf l)) → {t : LeafRead} → Small t
+      → t ≡ read_of (leaf_of s base (offset + base) l.entry_size l.count)
+      → {w : (Result Counts WalkRefusal)} → w ≡ Ok (with_leaf st t) → Walk budget st (trace hd levels s base offset) w
   unfolding counted kept_in lists_in entries_in dropped_in
-  walk_leaf {l} x m d q =
+  walk_leaf {l} x z d q =
+      let m : l.count < 65536 = let n = ap (λ (r : LeafRead). r.entries) d in let f = z.few in omega arith in
       let u : st.lists ≡ budget → ⊥ = x.unspent in
       let few : Bounded budget st = x.few in
       let k = leaf_all s base l.entry_size l.count (offset + base + 8) in
-      walk_read budget st (trace hd levels s base offset) _ (q ∙ ap (λ (r : LeafRead). Read (with_leaf st r)) d)
-      (judge-leaf hd budget st levels s base offset x.deeper x.unspent l.signature l.entry_size l.count x.is)
+      walk_read budget st (trace hd levels s base offset) _ (q ∙ ap (λ (r : LeafRead). Ok (with_leaf st r)) d)
+      (judge-leaf hd budget st levels s base offset x.deeper x.unspent (word_of l.kind) l.entry_size l.count x.is)
       (record { every = omega arith; some_entries = omega arith; some_lists = omega arith })
 
   -- the lists below an `ri` list, from the counts that the code builds
-  module _ {l : IndexList} (x : Reached hd budget st levels s base offset (found.Index l)) where
-    pub index_bounded : Bounded budget (with_index st)
+  module _ {l : IndexList} (x : Reached hd budget st levels s base offset (Ok (found.Index l))) {start : Counts} (b : start ≡ with_index st) where
+    pub index_bounded : Bounded budget start
     index_bounded =
         let u : st.lists ≡ budget → ⊥ = x.unspent in
         let few : Bounded budget st = x.few in
-        record { every = omega arith; some_entries = omega arith; some_lists = omega arith }
+        rw b (record { every = omega arith; some_entries = omega arith; some_lists = omega arith })
 
-    below-index : judge budget (with_index st) (each (trace hd (levels - 1) s base) s l.count (offset + base + 8)) ≡ judge budget st (trace hd levels s base offset)
+    below-index : judge budget start (each (trace hd (levels - 1) s base) s l.count (offset + base + 8)) ≡ judge budget st (trace hd levels s base offset)
     below-index =
-        ap (λ (c : Counts). judge budget c (each (trace hd (levels - 1) s base) s l.count (offset + base + 8))) (index-counted st (offset + base) l.count)
+        ap (λ (c : Counts). judge budget c (each (trace hd (levels - 1) s base) s l.count (offset + base + 8))) (b ∙ index-counted st (offset + base) l.count)
         ∙ judge-index hd budget st levels s base offset x.deeper x.unspent l.count x.is
 
     module _ {sum : Counts} {pos i : ℕ}
-        (v : Indexing budget (trace hd (levels - 1) s base) s l.count (offset + base + 8) (with_index st) sum pos i) where
-      pub walk_index : l.count ≤ i → {w : WalkAnswer} → w ≡ Read sum → Walk budget st (trace hd levels s base offset) w
+        (v : Indexing budget (trace hd (levels - 1) s base) s l.count (offset + base + 8) start sum pos i) where
+      pub walk_index : l.count ≤ i → {w : (Result Counts WalkRefusal)} → w ≡ Ok sum → Walk budget st (trace hd levels s base offset) w
       walk_index m q =
           walk_read budget st (trace hd levels s base offset) sum q
-          (indexing_answer budget (trace hd (levels - 1) s base) s l.count (offset + base + 8) (with_index st) sum pos i v m ∙ below-index)
+          (indexing_answer budget (trace hd (levels - 1) s base) s l.count (offset + base + 8) start sum pos i v m ∙ below-index)
           v.few
 
-      pub walk_index_refused : i < l.count → {next : ℕ} → next ≡ word32 s pos → {w : WalkAnswer} {f : WalkRefusal}
-          → Walk budget sum (trace hd (levels - 1) s base next) w → w ≡ Refused f → Walk budget st (trace hd levels s base offset) (Refused f)
-      walk_index_refused m {next} d {w} {f} y e =
-          walk_refused budget st (trace hd levels s base offset) refl
-          (indexing_refused budget (trace hd (levels - 1) s base) s l.count (offset + base + 8) (with_index st) sum pos i v m next d y (ap walk_paper e)
-          ∙ below-index)
+      pub walk_index_refused : i < l.count → {next : ℕ} → next ≡ word32 s pos → {g : WalkRefusal} → Walk budget sum (trace hd (levels - 1) s base next) (Err g)
+          → {w : (Result Counts WalkRefusal)} → w ≡ Err g → Walk budget st (trace hd levels s base offset) w
+      walk_index_refused m {next} d {g} y e =
+          walk_refused budget st (trace hd levels s base offset) (ap walk_paper e)
+          (indexing_refused budget (trace hd (levels - 1) s base) s l.count (offset + base + 8) start sum pos i v m next d g y ∙ below-index)
 
 -- ---- a top list that is a leaf list, read at once
 
@@ -303,10 +284,10 @@ named_left z = let y : ⊥ = omega arith in y
 pub lost_few : (s : List ℕ) (base size n pos : ℕ) {lost : ℕ} → lost ≡ leaf_dropped s base size n pos → lost ≤ n
 lost_few s base size n pos d = let a = leaf_all s base size n pos in omega (arith, d)
 
-pub top_leaf : (budget : ℕ) (s : List ℕ) (base list kind size n : ℕ) → (0 ≡ budget → ⊥) → list_at s (list + base) ≡ success (lists.leaf kind size n)
-    → {lost : ℕ} → lost ≡ leaf_dropped s base size n (list + base + 8) → success (counts (n - lost) 1 n lost) ≡ judge budget none (walk_from s base list)
+pub top_leaf : (hd : ℕ → ℕ → Paper Listed) (budget : ℕ) (s : List ℕ) (base list kind size n : ℕ) → (0 ≡ budget → ⊥) → hd LEVELS (list + base) ≡ success (lists.leaf kind size n)
+    → {lost : ℕ} → lost ≡ leaf_dropped s base size n (list + base + 8) → success (counts (n - lost) 1 n lost) ≡ judge budget none (trace hd LEVELS s base list)
 unfolding counted kept_in lists_in entries_in dropped_in
-top_leaf budget s base list kind size n k e {lost} d =
+top_leaf hd budget s base list kind size n k e {lost} d =
     let a = leaf_all s base size n (list + base + 8) in
     ap success (counts_path (omega arith) refl (omega arith) (omega (arith, d)))
-    ∙ judge-leaf (ordinary s) budget none LEVELS s base list levels_left k kind size n e
+    ∙ judge-leaf hd budget none LEVELS s base list levels_left k kind size n e

@@ -2,14 +2,14 @@
 -- (document 01, "The subkey walk").
 use Rattle.std.specs.Prelude.{ℕ, List, [], cond, ltb, eqb, length}
 use Rattle.words.specs.Refusals.{TOO_MANY, BAD_BUDGET}
-use Rattle.words.specs.Paper.{Told, Paper, success, refused, by, tell, no_room_told}
+use Rattle.words.specs.Paper.{Told, Paper, success, refused, by, tell, no_room_told, paper_of}
 use Rattle.words.specs.Buffers.{in_room, Answered}
 use Rattle.sub_key_walk.specs.Trace.{Event, walk_from, kept_of}
 use Rattle.sub_key_walk.specs.Judge.{counts, judge}
 use Rattle.sub_key_walk.specs.declared.Counts.{Counts}
 use Rattle.sub_key_walk.specs.declared.WalkRefusal.{WalkRefusal}
-use Rattle.sub_key_walk.specs.declared.WalkAnswer.{WalkAnswer}
-use Rattle.sub_key_walk.specs.declared.WalkAnswer.TheVariants.{Read, Refused}
+use Rattle.std.specs.declared.result.Result.{Result}
+use Rattle.words.specs.Paper.{number_of}
 
 -- 13: "budget above 65,536"; 7: "subkey or value count above 1,048,576"
 abbrev pub BUDGET_LIMIT : ℕ
@@ -54,13 +54,12 @@ kept_by s base count list = kept_of (reached_by s base count list)
 
 -- what document 01 says of the code's answer
 abbrev pub walk_told : WalkRefusal → Told
-walk_told f = tell f.number f.position f.lists f.places f.entries f.dropped
+walk_told f = tell (number_of f.reason) f.position f.lists f.places f.entries f.dropped
 
-abbrev pub walk_paper : WalkAnswer → Paper Counts
-walk_paper (Read st) = success st
-walk_paper (Refused f) = refused (walk_told f)
+abbrev pub walk_paper : Result Counts WalkRefusal → Paper Counts
+walk_paper = paper_of (λ st. st) walk_told
 
 -- what `sub_keys` promises of its answer `r` and of the buffer, which held `old` and then holds `new`
-abbrev pub WalkAnswered : List ℕ → ℕ → ℕ → ℕ → ℕ → List ℕ → WalkAnswer → List ℕ → Type 0
+abbrev pub WalkAnswered : List ℕ → ℕ → ℕ → ℕ → ℕ → List ℕ → (Result Counts WalkRefusal) → List ℕ → Type 0
 WalkAnswered s base count list budget old r new =
     Answered (walk_paper r) (answer_of s base count list budget (length old)) (kept_by s base count list) old new

@@ -7,8 +7,10 @@ use Rattle.sub_key_list.specs.Leaves.{Leaf, leaf_at}
 use Rattle.sub_key_walk.specs.Trace.{dropped_of}
 use Rattle.sub_key_walk.specs.Answers.{reached_by, full_of, walk_paper}
 use Rattle.sub_key_walk.specs.Leaf.{full_leaf, leaf_paper}
-use Rattle.sub_key_walk.specs.declared.WalkAnswer.{WalkAnswer}
-use Rattle.sub_key_walk.specs.declared.LeafAnswer.{LeafAnswer}
+use Rattle.std.specs.declared.result.Result.{Result}
+use Rattle.sub_key_walk.specs.declared.Counts.{Counts}
+use Rattle.sub_key_walk.specs.declared.WalkRefusal.{WalkRefusal}
+use Rattle.sub_key_walk.specs.declared.LeafRead.{LeafRead}
 
 -- the entries that a walk from a key record drops, and those that a leaf list drops: each "by its own count over the entries"
 abbrev pub dropped_by : List ℕ → ℕ → ℕ → ℕ → ℕ
@@ -31,9 +33,9 @@ pub record Drops {A : Type 0} (full : A → Told) (d : ℕ) (a : Paper A) : Type
   pub other : (t : Told) → a ≡ refused t → (t.number ≡ NO_ROOM → ⊥) → t.dropped ≡ 0
 
 -- any answer that the contract of `sub_keys` or of `sub_key_counts` allows
-abbrev pub WalkDrops : List ℕ → ℕ → ℕ → ℕ → WalkAnswer → Type 0
+abbrev pub WalkDrops : List ℕ → ℕ → ℕ → ℕ → (Result Counts WalkRefusal) → Type 0
 WalkDrops s base count list r = Drops full_of (dropped_by s base count list) (walk_paper r)
 
 -- and that of `leaf_sub_keys`
-abbrev pub LeafDrops : List ℕ → ℕ → ℕ → LeafAnswer → Type 0
+abbrev pub LeafDrops : List ℕ → ℕ → ℕ → (Result LeafRead WalkRefusal) → Type 0
 LeafDrops s base p r = Drops full_leaf (dropped_from (leaf_at s base p)) (leaf_paper r)

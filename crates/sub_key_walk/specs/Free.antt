@@ -6,8 +6,9 @@ use Rattle.sub_key_walk.specs.Trace.{Event, deep, bad, index, leaf, walk_from, k
 use Rattle.sub_key_walk.specs.Judge.{counts}
 use Rattle.sub_key_walk.specs.Answers.{BUDGET_LIMIT, COUNT_LIMIT}
 use Rattle.sub_key_walk.specs.declared.Counts.{Counts}
-use Rattle.sub_key_walk.specs.declared.WalkAnswer.{WalkAnswer}
-use Rattle.sub_key_walk.specs.declared.WalkAnswer.TheVariants.{Read}
+use Rattle.std.specs.Prelude.{Ok}
+use Rattle.std.specs.declared.result.Result.{Result}
+use Rattle.sub_key_walk.specs.declared.WalkRefusal.{WalkRefusal}
 
 -- each list of a row
 unfoldable pub All : (Event → Type 0) → List Event → Type 0
@@ -75,6 +76,6 @@ lists_by (success st) = st.lists
 lists_by (refused t) = t.lists
 
 -- an answer of the code that succeeds, with its counts
-pub record Succeeds (r : WalkAnswer) : Type 0 where
+pub record Succeeds (r : (Result Counts WalkRefusal)) : Type 0 where
   pub counts : Counts
-  pub is : r ≡ Read counts
+  pub is : r ≡ Ok counts

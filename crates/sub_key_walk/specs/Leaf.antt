@@ -1,12 +1,12 @@
 -- The answer of one leaf list, and what the buffer holds after it, for any input (document 01, "The subkey walk": one list).
 use Rattle.std.specs.Prelude.{ℕ, List, [], length}
-use Rattle.words.specs.Paper.{Told, Paper, success, refused, no_room_told, on_success}
+use Rattle.words.specs.Paper.{Told, Paper, success, refused, no_room_told, on_success, paper_of}
 use Rattle.words.specs.Buffers.{in_room, Answered}
 use Rattle.sub_key_list.specs.Leaves.{Leaf, leaf_at}
 use Rattle.sub_key_walk.specs.Answers.{walk_told}
 use Rattle.sub_key_walk.specs.declared.LeafRead.{LeafRead}
-use Rattle.sub_key_walk.specs.declared.LeafAnswer.{LeafAnswer}
-use Rattle.sub_key_walk.specs.declared.LeafAnswer.TheVariants.{Read, Refused}
+use Rattle.std.specs.declared.result.Result.{Result}
+use Rattle.sub_key_walk.specs.declared.WalkRefusal.{WalkRefusal}
 
 -- "offsets kept .. and leaf entries, dropped ones included", and "the number dropped", as numbers
 abbrev pub read_of : Leaf → LeafRead
@@ -30,14 +30,13 @@ kept_from (success l) = l.kept
 kept_from (refused t) = []
 
 -- what document 01 says of the code's answer
-abbrev pub leaf_paper : LeafAnswer → Paper LeafRead
-leaf_paper (Read r) = success r
-leaf_paper (Refused f) = refused (walk_told f)
+abbrev pub leaf_paper : Result LeafRead WalkRefusal → Paper LeafRead
+leaf_paper = paper_of (λ r. r) walk_told
 
 -- the answer `r` of a leaf list that is read as `a`, and the buffer, which held `old` and then holds `new`
-abbrev pub LeafAnsweredAs : Paper Leaf → List ℕ → LeafAnswer → List ℕ → Type 0
+abbrev pub LeafAnsweredAs : Paper Leaf → List ℕ → (Result LeafRead WalkRefusal) → List ℕ → Type 0
 LeafAnsweredAs a old r new = Answered (leaf_paper r) (leaf_in_room a (length old)) (kept_from a) old new
 
 -- what `leaf_sub_keys` promises
-abbrev pub LeafAnswered : List ℕ → ℕ → ℕ → List ℕ → LeafAnswer → List ℕ → Type 0
+abbrev pub LeafAnswered : List ℕ → ℕ → ℕ → List ℕ → (Result LeafRead WalkRefusal) → List ℕ → Type 0
 LeafAnswered s base p old r new = LeafAnsweredAs (leaf_at s base p) old r new

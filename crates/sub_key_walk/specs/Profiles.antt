@@ -9,11 +9,10 @@ use Rattle.sub_key_walk.specs.Answers.{walk_told}
 use Rattle.sub_key_walk.specs.Free.{All, Succeeds}
 use Rattle.sub_key_walk.specs.declared.Counts.{Counts}
 use Rattle.sub_key_walk.specs.declared.WalkRefusal.{WalkRefusal}
-use Rattle.sub_key_walk.specs.declared.WalkAnswer.{WalkAnswer}
-use Rattle.sub_key_walk.specs.declared.WalkAnswer.TheVariants.{Read, Refused}
 use Rattle.sub_key_walk.specs.declared.LeafRead.{LeafRead}
-use Rattle.sub_key_walk.specs.declared.LeafAnswer.{LeafAnswer}
-use Rattle.sub_key_walk.specs.declared.LeafAnswer.TheVariants as one
+use Rattle.std.specs.Prelude.{Ok, Err}
+use Rattle.std.specs.declared.result.Result.{Result}
+use Rattle.words.specs.Paper.{number_of}
 
 -- a refusal that the strict profile adds: 20 at position 0, or 3, with the lists read so far
 abbrev pub Added : WalkRefusal → Type 0
@@ -21,19 +20,19 @@ Added f = (walk_told f ≡ fault NOT_PERMITTED 0 f.lists) ⊎ (walk_told f ≡ f
 
 -- Of any answer `r` of the strict walk and any answer `o` of the ordinary one from the same record over the same image, base and budget,
 -- both with no regard to room or both with the same room
-pub record Walks (budget : ℕ) (r o : WalkAnswer) : Type 0 where
+pub record Walks (budget : ℕ) (r o : (Result Counts WalkRefusal)) : Type 0 where
   -- "What strict accepts, ordinary reading answers identically"
-  pub accepts : (t : Counts) → r ≡ Read t → o ≡ r
+  pub accepts : (t : Counts) → r ≡ Ok t → o ≡ r
   -- strict refuses as the ordinary reading does, or by 20 or 3; by these where the budget is not spent, so that 15 comes before them
-  pub refuses : (f : WalkRefusal) → r ≡ Refused f → (o ≡ r) ⊎ (Added f × (f.lists < budget))
+  pub refuses : (f : WalkRefusal) → r ≡ Err f → (o ≡ r) ⊎ (Added f × (f.lists < budget))
   -- as no `ri` list names an `ri` list, no list is too deep
-  pub never_deep : (f : WalkRefusal) → r ≡ Refused f → f.number ≡ TOO_DEEP → ⊥
+  pub never_deep : (f : WalkRefusal) → r ≡ Err f → (number_of f.reason) ≡ TOO_DEEP → ⊥
 
 -- And of the buffers, which held `old` and then hold `new` and `made`
-pub record SubKeys (budget : ℕ) (old : List ℕ) (r : WalkAnswer) (new : List ℕ) (o : WalkAnswer) (made : List ℕ) : Type 0 where
+pub record SubKeys (budget : ℕ) (old : List ℕ) (r : (Result Counts WalkRefusal)) (new : List ℕ) (o : (Result Counts WalkRefusal)) (made : List ℕ) : Type 0 where
   pub answers : Walks budget r o
-  pub buffer : (t : Counts) → r ≡ Read t → made ≡ new
-  pub untouched : (f : WalkRefusal) → r ≡ Refused f → new ≡ old
+  pub buffer : (t : Counts) → r ≡ Ok t → made ≡ new
+  pub untouched : (f : WalkRefusal) → r ≡ Err f → new ≡ old
 
 -- ---- when it succeeds, exactly
 
@@ -61,13 +60,13 @@ pub record Permitted (s : List ℕ) (base list minor : ℕ) : Type 0 where
   pub flat : Flat (walk_from s base list)
 
 -- For a count above 0: the strict walk succeeds exactly where the ordinary one does and all lists that it reaches are permitted
-pub record Exactly (s : List ℕ) (base list minor : ℕ) (r o : WalkAnswer) : Type 0 where
+pub record Exactly (s : List ℕ) (base list minor : ℕ) (r o : (Result Counts WalkRefusal)) : Type 0 where
   pub if : Succeeds o → Permitted s base list minor → Succeeds r
   pub only_if : Succeeds r → Succeeds o × Permitted s base list minor
 
 -- ---- the same of one leaf list
 
-pub record LeafSubKeys (old : List ℕ) (r : LeafAnswer) (new : List ℕ) (o : LeafAnswer) (made : List ℕ) : Type 0 where
-  pub accepts : (t : LeafRead) → r ≡ one.Read t → (o ≡ r) × (made ≡ new)
-  pub refuses : (f : WalkRefusal) → r ≡ one.Refused f → (o ≡ r) ⊎ Added f
-  pub untouched : (f : WalkRefusal) → r ≡ one.Refused f → new ≡ old
+pub record LeafSubKeys (old : List ℕ) (r : (Result LeafRead WalkRefusal)) (new : List ℕ) (o : (Result LeafRead WalkRefusal)) (made : List ℕ) : Type 0 where
+  pub accepts : (t : LeafRead) → r ≡ Ok t → (o ≡ r) × (made ≡ new)
+  pub refuses : (f : WalkRefusal) → r ≡ Err f → (o ≡ r) ⊎ Added f
+  pub untouched : (f : WalkRefusal) → r ≡ Err f → new ≡ old

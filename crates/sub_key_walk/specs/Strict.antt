@@ -10,8 +10,9 @@ use Rattle.sub_key_walk.specs.Trace.{Event, trace, LEVELS, kept_of}
 use Rattle.sub_key_walk.specs.Answers.{from_record, full_of, reached_for, walk_paper}
 use Rattle.sub_key_walk.specs.Leaf.{LeafAnsweredAs}
 use Rattle.sub_key_walk.specs.declared.Counts.{Counts}
-use Rattle.sub_key_walk.specs.declared.WalkAnswer.{WalkAnswer}
-use Rattle.sub_key_walk.specs.declared.LeafAnswer.{LeafAnswer}
+use Rattle.std.specs.declared.result.Result.{Result}
+use Rattle.sub_key_walk.specs.declared.WalkRefusal.{WalkRefusal}
+use Rattle.sub_key_walk.specs.declared.LeafRead.{LeafRead}
 
 -- how a list is read, by the levels left and the position: every list but the top one is named by an `ri` list
 abbrev pub strict : List ℕ → ℕ → ℕ → ℕ → Paper Listed
@@ -32,7 +33,7 @@ abbrev pub strict_kept_by : List ℕ → ℕ → ℕ → ℕ → ℕ → List �
 strict_kept_by s base count list minor = kept_of (reached_for count (strict_from s base list minor))
 
 -- what `strict_sub_keys` promises of its answer `r` and of the buffer, which held `old` and then holds `new`
-abbrev pub StrictAnswered : List ℕ → ℕ → ℕ → ℕ → ℕ → ℕ → List ℕ → WalkAnswer → List ℕ → Type 0
+abbrev pub StrictAnswered : List ℕ → ℕ → ℕ → ℕ → ℕ → ℕ → List ℕ → (Result Counts WalkRefusal) → List ℕ → Type 0
 StrictAnswered s base count list budget minor old r new =
     Answered (walk_paper r) (strict_answer_of s base count list budget minor (length old)) (strict_kept_by s base count list minor) old new
 
@@ -42,5 +43,5 @@ abbrev pub strict_leaf_at : List ℕ → ℕ → ℕ → ℕ → Paper Leaf
 strict_leaf_at s base p minor = only_leaf s base p (strict_at s minor false p)
 
 -- what `strict_leaf_sub_keys` promises
-abbrev pub StrictLeafAnswered : List ℕ → ℕ → ℕ → ℕ → List ℕ → LeafAnswer → List ℕ → Type 0
+abbrev pub StrictLeafAnswered : List ℕ → ℕ → ℕ → ℕ → List ℕ → (Result LeafRead WalkRefusal) → List ℕ → Type 0
 StrictLeafAnswered s base p minor old r new = LeafAnsweredAs (strict_leaf_at s base p minor) old r new

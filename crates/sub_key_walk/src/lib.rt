@@ -2,19 +2,20 @@
 // one leaf list. A walk is measured first and its buffer filled after, so that a refusal leaves the buffer as it was.
 #![tactic(auto)]
 
-ghost use Rattle.std.specs.Prelude.{◌≡◌, ◌+◌, ◌%◌, ◌≤◌, min, [], length};
+ghost use Rattle.std.specs.Prelude.{◌≡◌, ◌+◌, ◌%◌, ◌≤◌, [], length};
 ghost use Rattle.words.specs.Words.{word32};
-ghost use Rattle.words.specs.Paper.{refused, no_room_told};
+ghost use Rattle.words.specs.Paper.{number_of, fault_number};
 ghost use Rattle.sub_key_list.specs.Lists.{list_paper};
-ghost use Rattle.sub_key_list.specs.Leaves.{keep, leaf_kept, drop_one, leaf_dropped, leaf_of};
+ghost use Rattle.sub_key_list.specs.Leaves.{keep, leaf_kept, drop_one, leaf_dropped, leaf_of, only_leaf};
 ghost use Rattle.sub_key_walk.specs.Trace.{trace, ordinary, walk_from, kept_of};
-ghost use Rattle.sub_key_walk.specs.Judge.{fault, counts, judge};
-ghost use Rattle.sub_key_walk.specs.Answers.{BUDGET_LIMIT, none, measured, walk_told, walk_paper, WalkAnswered};
-ghost use Rattle.sub_key_walk.specs.Leaf.{read_of, LeafAnswered};
+ghost use Rattle.sub_key_walk.specs.Judge.{fault, judge};
+ghost use Rattle.sub_key_walk.specs.Answers.{BUDGET_LIMIT, none, from_record, measured, full_of, walk_told, walk_paper, WalkAnswered};
+ghost use Rattle.sub_key_walk.specs.Leaf.{read_of, LeafAnsweredAs, LeafAnswered};
 ghost use Rattle.sub_key_walk.specs.Strict.{strict_measured, StrictAnswered, StrictLeafAnswered};
-ghost use Rattle.sub_key_walk.specs.Walk.{start_fault, Entries, Stands, Whole, Bound, Sized, Filled, Bounded, Small, with_leaf, so_far, reading, Walk, Roomy};
+ghost use Rattle.sub_key_walk.specs.Walk.{start_fault, Entries, Stands, Whole, Bound, Sized, Filled, Bounded, Small, with_index, with_leaf, reading_by, walk_by, Walk, Roomy, AnsweredAs};
 
 use sub_key_list::{LeafList, SubKeyList};
+use words::{Reason, Refusal};
 
 // The greatest budget, the greatest count of subkeys or of values, and the levels of lists.
 const BUDGET_LIMIT: u32 = 65536;
@@ -40,11 +41,43 @@ pub struct Counts {
     pub dropped: u32,
 }
 
+// Nothing is read yet.
+const NONE: Counts = Counts {
+    kept: 0,
+    lists: 0,
+    entries: 0,
+    dropped: 0,
+};
+
+impl Counts {
+    // With an `ri` list more, which gives nothing itself.
+    fn with_index(mut self) -> Counts
+        requires { self.lists ≤ 65535 }
+        ensures { result ≡ with_index self }
+    {
+        self.lists += 1;
+        self
+    }
+
+    // With a leaf list more, by what it gave.
+    fn with_leaf(self, read: LeafRead) -> Counts
+        requires { (Bounded 65535 self) × (Small read) }
+        ensures { result ≡ with_leaf self read }
+    {
+        Counts {
+            kept: self.kept + read.kept,
+            lists: self.lists + 1,
+            entries: self.entries + read.entries,
+            dropped: self.dropped + read.dropped,
+        }
+    }
+}
+
 // A refusal: its number, the position of the list at fault, the lists read so far and, where there is no room, the places
 // needed, the entries and those dropped.
 #[derive(Clone, Copy)]
 pub struct WalkRefusal {
-    pub number: u32,
+    pub reason: Reason,
     pub position: usize,
     pub lists: u32,
     pub places: u32,
@@ -52,10 +85,11 @@ pub struct WalkRefusal {
     pub dropped: u32,
 }
 
+// How lists are read: in the ordinary way, or strictly with a minor version.
 #[derive(Clone, Copy)]
-pub enum WalkAnswer {
-    Read(Counts),
-    Refused(WalkRefusal),
+enum Profile {
+    Ordinary,
+    Strict { minor: u32 },
 }
 
 // What one leaf list gave: the offsets kept, all entries, dropped ones included, and those dropped.
@@ -66,18 +100,12 @@ pub struct LeafRead {
     pub dropped: u32,
 }
 
-#[derive(Clone, Copy)]
-pub enum LeafAnswer {
-    Read(LeafRead),
-    Refused(WalkRefusal),
-}
-
 // A refusal of the list at a position, after so many lists.
-fn refusal(number: u32, position: usize, lists: u32) -> WalkRefusal
-    ensures { walk_told result ≡ fault number position lists }
+fn refusal(reason: Reason, position: usize, lists: u32) -> WalkRefusal
+    ensures { walk_told result ≡ fault (number_of reason) position lists }
 {
     WalkRefusal {
-        number,
+        reason,
         position,
         lists,
         places: 0,
@@ -87,47 +115,17 @@ fn refusal(number: u32, position: usize, lists: u32) -> WalkRefusal
 }
 
 // The refusal of what can be read, where the buffer has too few places.
-fn full(lists: u32, places: u32, entries: u32, dropped: u32) -> WalkRefusal
-    ensures { walk_told result ≡ no_room_told lists places entries dropped }
+fn full(sum: Counts) -> WalkRefusal
+    ensures { walk_told result ≡ full_of sum }
 {
     WalkRefusal {
-        number: words::NO_ROOM,
+        reason: Reason::NoRoom,
         position: 0,
-        lists,
-        places,
-        entries,
-        dropped,
+        lists: sum.lists,
+        places: sum.kept,
+        entries: sum.entries,
+        dropped: sum.dropped,
     }
-}
-
-fn refuse(number: u32, position: usize, lists: u32) -> WalkAnswer
-    ensures { walk_paper result ≡ refused (fault number position lists) }
-{
-    WalkAnswer::Refused(refusal(number, position, lists))
-}
-
-// What is read so far: offsets kept, lists, entries and those dropped.
-fn read_so_far(kept: u32, lists: u32, entries: u32, dropped: u32) -> WalkAnswer
-    ensures { result ≡ WalkAnswer.Read (counts kept lists entries dropped) }
-{
-    WalkAnswer::Read(Counts {
-        kept,
-        lists,
-        entries,
-        dropped,
-    })
-}
-
-// The same with a leaf list more, by what it gave.
-fn with_leaf(kept: u32, lists: u32, entries: u32, dropped: u32, read: LeafRead) -> WalkAnswer
-    requires { (Bounded 65535 (counts kept lists entries dropped)) × (Small read) }
-    ensures { result ≡ WalkAnswer.Read (with_leaf (counts kept lists entries dropped) read) }
-{
-    let kept_after = kept + read.kept;
-    let lists_after = lists + 1;
-    let entries_after = entries + read.entries;
-    let dropped_after = dropped + read.dropped;
-    read_so_far(kept_after, lists_after, entries_after, dropped_after)
 }
 
 // The word at a place whose four bytes are there.
@@ -135,7 +133,7 @@ fn word(image: &[u8], at: usize) -> u32
     requires { at + 4 ≤ length image.now }
     ensures { result ≡ word32 image.now at }
 {
-    words::join4(image[at], image[at + 1], image[at + 2], image[at + 3])
+    u32::from_le_bytes([image[at], image[at + 1], image[at + 2], image[at + 3]])
 }
 
 // An entry of 8 bytes whole, as one number: so the compiler loads it whole, and makes wide steps without a gap behind the last one.
@@ -143,14 +141,16 @@ fn pair(image: &[u8], at: usize) -> u64
     requires { at + 8 ≤ length image.now }
     ensures { result % 4294967296 ≡ word32 image.now at }
 {
-    (image[at] as u64)
-        | ((image[at + 1] as u64) << 8)
-        | ((image[at + 2] as u64) << 16)
-        | ((image[at + 3] as u64) << 24)
-        | ((image[at + 4] as u64) << 32)
-        | ((image[at + 5] as u64) << 40)
-        | ((image[at + 6] as u64) << 48)
-        | ((image[at + 7] as u64) << 56)
+    u64::from_le_bytes([
+        image[at],
+        image[at + 1],
+        image[at + 2],
+        image[at + 3],
+        image[at + 4],
+        image[at + 5],
+        image[at + 6],
+        image[at + 7],
+    ])
 }
 
 // The offset of an entry of `size` bytes at a place.
@@ -170,8 +170,11 @@ fn offset_at(image: &[u8], size: usize, at: usize) -> u32
 fn drop_one(v: u32, base: u32) -> u32
     ensures { result ≡ drop_one (v + base) }
 {
-    if 4294967295 - base < v { 1 } else { 0 }
+    if v.checked_add(base).is_none() { 1 } else { 0 }
 }
+
+// `image, size, pos, n` of the functions on entries stay parameters: a struct of them with the invariant was tried, and each clause grew
+// longer (`self.entry.image.now`, `self.entry.size`), so that it is no plainer.
 
 // A bound of the offsets of entries: all their bits, in two streams, so that two loads go at a time. The loops over entries are called
 // with a constant size, so that the compiler makes wide steps of them.
@@ -180,23 +183,15 @@ fn bound_of(image: &[u8], size: usize, pos: usize, n: usize) -> u32
     ensures { Bound image.now size n pos result }
 {
     let half = n / 2;
-    let mut near: u32 = 0;
-    let mut further: u32 = 0;
-    let mut at = pos;
-    let mut far = pos + size * half;
-    let mut i: usize = 0;
-    while i < half {
-        let v = offset_at(image, size, at);
-        let u = offset_at(image, size, far);
-        near = near | v;
-        further = further | u;
-        at = at + size;
-        far = far + size;
-        i = i + 1;
+    let far = pos + size * half;
+    let mut near = 0;
+    let mut further = 0;
+    for i in 0..half {
+        near |= offset_at(image, size, pos + size * i);
+        further |= offset_at(image, size, far + size * i);
     }
     if half + half < n {
-        let last = offset_at(image, size, far);
-        further = further | last;
+        further |= offset_at(image, size, far + size * half);
     }
     near | further
 }
@@ -207,7 +202,7 @@ fn fits(image: &[u8], base: u32, size: usize, pos: usize, n: usize) -> bool
     requires sized { Sized size }
     ensures { Whole image.now base size n pos result }
 {
-    let most = 4294967295 - base;
+    let most = u32::MAX - base;
     if size == 4 {
         bound_of(image, 4, pos, n) <= most
     } else {
@@ -221,14 +216,10 @@ fn dropped_of(image: &[u8], base: u32, size: usize, pos: usize, n: usize) -> u32
     requires few { n ≤ 65535 }
     ensures { result ≡ leaf_dropped image.now base size n pos }
 {
-    let mut dropped: u32 = 0;
-    let mut at = pos;
-    let mut i: usize = 0;
-    while i < n {
-        let v = offset_at(image, size, at);
-        dropped = dropped + drop_one(v, base);
-        at = at + size;
-        i = i + 1;
+    let mut dropped = 0;
+    for i in 0..n {
+        let v = offset_at(image, size, pos + size * i);
+        dropped += drop_one(v, base);
     }
     dropped
 }
@@ -247,13 +238,6 @@ fn count_dropped(image: &[u8], base: u32, size: usize, pos: usize, n: usize) -> 
     }
 }
 
-// The smaller of two.
-fn smaller(a: usize, b: usize) -> usize
-    ensures { result ≡ min a b }
-{
-    if a < b { a } else { b }
-}
-
 // The same of many entries, piece by piece, as none is dropped of most: the first piece of which one may be dropped, and all behind it, are counted.
 fn dropped_wide(image: &[u8], base: u32, size: usize, pos: usize, n: usize) -> u32
     requires there { Entries image.now size n pos }
@@ -264,12 +248,12 @@ fn dropped_wide(image: &[u8], base: u32, size: usize, pos: usize, n: usize) -> u
     let mut at = pos;
     let mut left = n;
     while FEW < left {
-        let k = smaller(left, PIECE);
+        let k = left.min(PIECE);
         if !fits(image, base, size, at, k) {
             return count_dropped(image, base, size, at, left);
         }
-        at = at + size * k;
-        left = left - k;
+        at += size * k;
+        left -= k;
     }
     count_dropped(image, base, size, at, left)
 }
@@ -289,17 +273,11 @@ fn whole_of(
     requires room { place + length (leaf_kept image.now base size n pos) ≤ length out.old }
     ensures { Filled (leaf_kept image.now base size n pos) out.old place result out.new }
 {
-    let mut at = pos;
-    let mut to = place;
-    let mut i: usize = 0;
-    while i < n {
-        let v = offset_at(image, size, at);
-        out[to] = v + base;
-        at = at + size;
-        to = to + 1;
-        i = i + 1;
+    for i in 0..n {
+        let v = offset_at(image, size, pos + size * i);
+        out[place + i] = v + base;
     }
-    to
+    place + n
 }
 
 // The same, with the size as a constant.
@@ -330,11 +308,12 @@ fn put_kept(v: u32, base: u32, out: &mut [u32], to: usize) -> usize
     requires { to + length (keep (v + base) []) ≤ length out.old }
     ensures { Filled (keep (v + base) []) out.old to result out.new }
 {
-    if v <= 4294967295 - base {
-        out[to] = v + base;
-        to + 1
-    } else {
-        to
+    match v.checked_add(base) {
+        Some(sum) => {
+            out[to] = sum;
+            to + 1
+        }
+        None => to,
     }
 }
 
@@ -352,14 +331,10 @@ fn fill_each(
     requires room { place + length (leaf_kept image.now base size n pos) ≤ length out.old }
     ensures { Filled (leaf_kept image.now base size n pos) out.old place result out.new }
 {
-    let mut at = pos;
     let mut to = place;
-    let mut i: usize = 0;
-    while i < n {
-        let v = offset_at(image, size, at);
+    for i in 0..n {
+        let v = offset_at(image, size, pos + size * i);
         to = put_kept(v, base, out, to);
-        at = at + size;
-        i = i + 1;
     }
     to
 }
@@ -388,8 +363,8 @@ fn fill_kept(
         } else {
             to = fill_each(image, base, size, at, BLOCK, out, to);
         }
-        at = at + size * BLOCK;
-        left = left - BLOCK;
+        at += size * BLOCK;
+        left -= BLOCK;
     }
     fill_each(image, base, size, at, left, out, to)
 }
@@ -411,7 +386,8 @@ fn dropped_few(image: &[u8], base: u32, position: usize, leaf: LeafList) -> u32
 // What it gives, counted.
 fn read_leaf(image: &[u8], base: u32, position: usize, leaf: LeafList) -> LeafRead
     requires { Stands image.now position leaf }
-    ensures { result ≡ read_of (leaf_of image.now base position leaf.entry_size leaf.count) }
+    ensures counted { result ≡ read_of (leaf_of image.now base position leaf.entry_size leaf.count) }
+    ensures few { Small result }
 {
     let n = leaf.count as usize;
     let dropped = if n <= FEW {
@@ -420,15 +396,15 @@ fn read_leaf(image: &[u8], base: u32, position: usize, leaf: LeafList) -> LeafRe
         dropped_wide(image, base, leaf.entry_size as usize, position + 8, n)
     };
     let entries = leaf.count as u32;
-    let kept = entries - dropped;
     LeafRead {
-        kept,
+        kept: entries - dropped,
         entries,
         dropped,
     }
 }
 
-// And written from a place on. Where it is known that none is dropped, `whole` says so.
+// And written from a place on. Where it is known that none is dropped, `whole` says so. (A fact that picks the faster loop, which no type
+// says more plainly.)
 fn fill_leaf(
     image: &[u8],
     base: u32,
@@ -448,131 +424,116 @@ fn fill_leaf(
     let pos = position + 8;
     if whole {
         fill_whole(image, base, size as usize, pos, n, out, place)
+    } else if size == 4 {
+        fill_kept(image, base, 4, pos, n, out, place)
     } else {
-        if size == 4 {
-            fill_kept(image, base, 4, pos, n, out, place)
-        } else {
-            fill_kept(image, base, 8, pos, n, out, place)
+        fill_kept(image, base, 8, pos, n, out, place)
+    }
+}
+
+// The list at a position, with so many levels left. Every list but the top one is named by an `ri` list.
+#[inline(always)]
+fn list_by(
+    image: &[u8],
+    position: usize,
+    profile: Profile,
+    levels: u32,
+) -> Result<SubKeyList, Refusal>
+    ensures { list_paper result ≡ reading_by profile image.now levels position }
+{
+    match profile {
+        Profile::Ordinary => sub_key_list::read_list(image, position),
+        Profile::Strict { minor } => {
+            let named = levels < LEVELS;
+            sub_key_list::strict_list(image, position, minor, named)
         }
     }
 }
 
-// The subkeys of the leaf list at a position, each plus the base, into `out`.
-pub fn leaf_sub_keys(image: &[u8], base: u32, position: usize, out: &mut [u32]) -> LeafAnswer
+// The subkeys of the leaf list at a position, by a profile.
+fn leaf_sub_keys_by(
+    image: &[u8],
+    base: u32,
+    position: usize,
+    profile: Profile,
+    out: &mut [u32],
+) -> Result<LeafRead, WalkRefusal>
+    ensures { LeafAnsweredAs (only_leaf image.now base position (reading_by profile image.now LEVELS position)) out.old result out.new }
+{
+    match list_by(image, position, profile, LEVELS) {
+        Err(fault) => Err(refusal(fault.reason, fault.position, 0)),
+        Ok(SubKeyList::Index(_)) => Err(refusal(Reason::BadSign, position, 0)),
+        Ok(SubKeyList::Leaf(leaf)) => {
+            let read = read_leaf(image, base, position, leaf);
+            if out.len() < (read.kept as usize) {
+                return Err(full(Counts {
+                    kept: read.kept,
+                    lists: 0,
+                    entries: read.entries,
+                    dropped: read.dropped,
+                }));
+            }
+            fill_leaf(image, base, position, leaf, read.dropped == 0, out, 0);
+            Ok(read)
+        }
+    }
+}
+
+// The subkeys of the leaf list at a position, each plus the base, into `out`. A refusal changes no place of it.
+pub fn leaf_sub_keys(
+    image: &[u8],
+    base: u32,
+    position: usize,
+    out: &mut [u32],
+) -> Result<LeafRead, WalkRefusal>
     ensures { LeafAnswered image.now base position out.old result out.new }
 {
-    match sub_key_list::read_list(image, position) {
-        SubKeyList::Refused(fault) => LeafAnswer::Refused(refusal(fault.number, fault.position, 0)),
-        SubKeyList::Index(index) => LeafAnswer::Refused(refusal(words::BAD_SIGN, position, 0)),
-        SubKeyList::Leaf(leaf) => {
-            let read = read_leaf(image, base, position, leaf);
-            let kept = read.kept;
-            let dropped = read.dropped;
-            let room = out.len();
-            if room < (kept as usize) {
-                return LeafAnswer::Refused(full(0, kept, read.entries, dropped));
-            }
-            fill_leaf(image, base, position, leaf, dropped == 0, out, 0);
-            LeafAnswer::Read(read)
-        }
-    }
+    leaf_sub_keys_by(image, base, position, Profile::Ordinary, out)
 }
 
-// The subkeys of the leaf list at a position, read strictly. What strict accepts, the ordinary reading answers identically.
+// The same with the list read strictly. What strict accepts, the ordinary reading answers identically.
 pub fn strict_leaf_sub_keys(
     image: &[u8],
     base: u32,
     position: usize,
     minor: u32,
     out: &mut [u32],
-) -> LeafAnswer
+) -> Result<LeafRead, WalkRefusal>
     ensures { StrictLeafAnswered image.now base position minor out.old result out.new }
 {
-    match sub_key_list::strict_list(image, position, minor, false) {
-        SubKeyList::Refused(why) => LeafAnswer::Refused(refusal(why.number, why.position, 0)),
-        SubKeyList::Index(index) => leaf_sub_keys(image, base, position, out),
-        SubKeyList::Leaf(leaf) => leaf_sub_keys(image, base, position, out),
-    }
+    leaf_sub_keys_by(image, base, position, Profile::Strict { minor }, out)
 }
 
-// The list at a position, with so many levels left, read strictly or in the ordinary way. Every list but the top one is named by an
-// `ri` list.
-fn list_by(image: &[u8], position: usize, strict: bool, minor: u32, levels: u32) -> SubKeyList
-    ensures { list_paper result ≡ reading strict image.now minor levels position }
-{
-    if strict {
-        let named = levels < LEVELS;
-        sub_key_list::strict_list(image, position, minor, named)
-    } else {
-        sub_key_list::read_list(image, position)
-    }
-}
-
-// Measures the walk of the list at an offset, strictly or in the ordinary way, with so many levels left, after so many lists read,
-// entries and entries dropped; every other entry is kept.
+// Measures the walk of the list at an offset, with so many levels left, after what is read so far.
 fn measure(
     image: &[u8],
     base: u32,
     budget: u32,
-    strict: bool,
-    minor: u32,
+    profile: Profile,
     levels: u32,
     offset: u32,
-    lists: u32,
-    entries: u32,
-    dropped: u32,
-) -> WalkAnswer
-    requires { (budget ≤ BUDGET_LIMIT) × (Bounded budget (so_far lists entries dropped)) }
-    ensures { Walk budget (so_far lists entries dropped) (trace (reading strict image.now minor) levels image.now base offset) result }
+    so_far: Counts,
+) -> Result<Counts, WalkRefusal>
+    requires { (budget ≤ BUDGET_LIMIT) × (Bounded budget so_far) }
+    ensures { Walk budget so_far (trace (reading_by profile image.now) levels image.now base offset) result }
 {
     let position = (offset as usize) + (base as usize);
     if levels == 0 {
-        return refuse(words::TOO_DEEP, position, lists);
+        return Err(refusal(Reason::TooDeep, position, so_far.lists));
     }
-    if lists == budget {
-        return refuse(words::OUT_OF_STEPS, position, lists);
+    if so_far.lists == budget {
+        return Err(refusal(Reason::OutOfSteps, position, so_far.lists));
     }
-    match list_by(image, position, strict, minor, levels) {
-        SubKeyList::Refused(fault) => refuse(fault.number, fault.position, lists),
-        SubKeyList::Leaf(leaf) => {
-            let read = read_leaf(image, base, position, leaf);
-            let kept = entries - dropped;
-            with_leaf(kept, lists, entries, dropped, read)
-        }
-        SubKeyList::Index(index) => {
-            let count = index.count;
-            let mut l = lists + 1;
-            let mut e = entries;
-            let mut d = dropped;
-            let mut pos = position + 8;
-            let mut i: u16 = 0;
-            while i < count {
-                let next = word(image, pos);
-                match measure(
-                    image,
-                    base,
-                    budget,
-                    strict,
-                    minor,
-                    levels - 1,
-                    next,
-                    l,
-                    e,
-                    d,
-                ) {
-                    WalkAnswer::Refused(fault) => {
-                        return WalkAnswer::Refused(fault);
-                    }
-                    WalkAnswer::Read(sum) => {
-                        l = sum.lists;
-                        e = sum.entries;
-                        d = sum.dropped;
-                    }
-                }
-                pos = pos + 4;
-                i = i + 1;
+    match list_by(image, position, profile, levels) {
+        Err(fault) => Err(refusal(fault.reason, fault.position, so_far.lists)),
+        Ok(SubKeyList::Leaf(leaf)) => Ok(so_far.with_leaf(read_leaf(image, base, position, leaf))),
+        Ok(SubKeyList::Index(index)) => {
+            let mut sum = so_far.with_index();
+            for i in 0..index.count {
+                let next = word(image, position + 8 + 4 * (i as usize));
+                sum = measure(image, base, budget, profile, levels - 1, next, sum)?;
             }
-            read_so_far(e - d, l, e, d)
+            Ok(sum)
         }
     }
 }
@@ -596,18 +557,13 @@ fn fill(
     }
     let position = (offset as usize) + (base as usize);
     match sub_key_list::read_list(image, position) {
-        SubKeyList::Refused(fault) => place,
-        SubKeyList::Leaf(leaf) => fill_leaf(image, base, position, leaf, whole, out, place),
-        SubKeyList::Index(index) => {
-            let count = index.count;
+        Err(_) => place,
+        Ok(SubKeyList::Leaf(leaf)) => fill_leaf(image, base, position, leaf, whole, out, place),
+        Ok(SubKeyList::Index(index)) => {
             let mut to = place;
-            let mut from = position + 8;
-            let mut k: u16 = 0;
-            while k < count {
-                let next = word(image, from);
+            for k in 0..index.count {
+                let next = word(image, position + 8 + 4 * (k as usize));
                 to = fill(image, base, left - 1, next, whole, out, to);
-                from = from + 4;
-                k = k + 1;
             }
             to
         }
@@ -615,72 +571,97 @@ fn fill(
 }
 
 // Measures the walk from the top list. A short leaf list, which most keys have, is read at once.
-fn measure_top(image: &[u8], base: u32, budget: u32, list: u32) -> WalkAnswer
+#[inline(always)]
+fn measure_top(
+    image: &[u8],
+    base: u32,
+    budget: u32,
+    profile: Profile,
+    list: u32,
+) -> Result<Counts, WalkRefusal>
     requires { budget ≤ BUDGET_LIMIT }
-    ensures { walk_paper result ≡ judge budget none (walk_from image.now base list) }
+    ensures { walk_paper result ≡ judge budget none (walk_by profile image.now base list) }
 {
     let position = (list as usize) + (base as usize);
     if 0 < budget {
-        match sub_key_list::read_list(image, position) {
-            SubKeyList::Leaf(leaf) => {
-                if (leaf.count as usize) <= FEW {
-                    let lost = dropped_few(image, base, position, leaf);
-                    let all = leaf.count as u32;
-                    return read_so_far(all - lost, 1, all, lost);
-                }
+        if let Ok(SubKeyList::Leaf(leaf)) = list_by(image, position, profile, LEVELS) {
+            if (leaf.count as usize) <= FEW {
+                let dropped = dropped_few(image, base, position, leaf);
+                let entries = leaf.count as u32;
+                return Ok(Counts {
+                    kept: entries - dropped,
+                    lists: 1,
+                    entries,
+                    dropped,
+                });
             }
-            SubKeyList::Index(index) => {}
-            SubKeyList::Refused(fault) => {}
         }
     }
-    measure(image, base, budget, false, 0, LEVELS, list, 0, 0, 0)
+    measure(image, base, budget, profile, LEVELS, list, NONE)
 }
 
 // Writes what the walk from the top list keeps, and gives the place behind it. A leaf list of which nothing is dropped is written at
 // once.
+#[inline(always)]
 fn fill_top(image: &[u8], base: u32, list: u32, whole: bool, out: &mut [u32]) -> usize
     requires { Roomy (walk_from image.now base list) whole out.old 0 }
     ensures { Filled (kept_of (walk_from image.now base list)) out.old 0 result out.new }
 {
     let position = (list as usize) + (base as usize);
     if whole {
-        match sub_key_list::read_list(image, position) {
-            SubKeyList::Leaf(leaf) => {
-                let size = leaf.entry_size as usize;
-                return fill_whole(image, base, size, position + 8, leaf.count as usize, out, 0);
-            }
-            SubKeyList::Index(index) => {}
-            SubKeyList::Refused(fault) => {}
+        if let Ok(SubKeyList::Leaf(leaf)) = sub_key_list::read_list(image, position) {
+            let size = leaf.entry_size as usize;
+            return fill_whole(image, base, size, position + 8, leaf.count as usize, out, 0);
         }
     }
     fill(image, base, LEVELS, list, whole, out, 0)
 }
 
-// The refusal of a count or a budget before any list is reached, by its number; 0 where there is none.
-fn start_fault(count: u32, budget: u32) -> u32
-    ensures { result ≡ start_fault count budget }
+// The refusal of a count or a budget before any list is reached, where there is one.
+fn start_fault(count: u32, budget: u32) -> Option<Reason>
+    ensures { fault_number result ≡ start_fault count budget }
 {
     if BUDGET_LIMIT < budget {
-        return words::BAD_BUDGET;
+        return Some(Reason::BadBudget);
     }
     if COUNT_LIMIT < count {
-        return words::TOO_MANY;
+        return Some(Reason::TooMany);
     }
-    0
+    None
+}
+
+// What the walk counts, by a profile.
+#[inline(always)]
+fn counts_by(
+    image: &[u8],
+    base: u32,
+    count: u32,
+    list: u32,
+    budget: u32,
+    profile: Profile,
+) -> Result<Counts, WalkRefusal>
+    ensures { walk_paper result ≡ from_record count budget (walk_by profile image.now base list) }
+{
+    if let Some(reason) = start_fault(count, budget) {
+        return Err(refusal(reason, 0, 0));
+    }
+    if count == 0 {
+        return Ok(NONE);
+    }
+    measure_top(image, base, budget, profile, list)
 }
 
 // What the walk from a key record with a subkey count and the offset of its list counts, with no regard to room. Nothing is written.
-pub fn sub_key_counts(image: &[u8], base: u32, count: u32, list: u32, budget: u32) -> WalkAnswer
+pub fn sub_key_counts(
+    image: &[u8],
+    base: u32,
+    count: u32,
+    list: u32,
+    budget: u32,
+) -> Result<Counts, WalkRefusal>
     ensures { walk_paper result ≡ measured image.now base count list budget }
 {
-    let fault = start_fault(count, budget);
-    if fault != 0 {
-        return refuse(fault, 0, 0);
-    }
-    if count == 0 {
-        return read_so_far(0, 0, 0, 0);
-    }
-    measure_top(image, base, budget, list)
+    counts_by(image, base, count, list, budget, Profile::Ordinary)
 }
 
 // What it counts with each list read strictly.
@@ -691,20 +672,37 @@ pub fn strict_sub_key_counts(
     list: u32,
     budget: u32,
     minor: u32,
-) -> WalkAnswer
+) -> Result<Counts, WalkRefusal>
     ensures { walk_paper result ≡ strict_measured image.now base count list budget minor }
 {
-    let fault = start_fault(count, budget);
-    if fault != 0 {
-        return refuse(fault, 0, 0);
-    }
-    if 0 < count {
-        return measure(image, base, budget, true, minor, LEVELS, list, 0, 0, 0);
-    }
-    read_so_far(0, 0, 0, 0)
+    counts_by(image, base, count, list, budget, Profile::Strict { minor })
 }
 
-// The subkeys of a key record with a subkey count and the offset of its list, into `out`.
+// The subkeys of a key record, by a profile. What strict accepts, the ordinary reading answers identically: so it is filled as that
+// one is.
+#[inline(always)]
+fn sub_keys_by(
+    image: &[u8],
+    base: u32,
+    count: u32,
+    list: u32,
+    budget: u32,
+    profile: Profile,
+    out: &mut [u32],
+) -> Result<Counts, WalkRefusal>
+    ensures { AnsweredAs count budget (walk_by profile image.now base list) out.old result out.new }
+{
+    let sum = counts_by(image, base, count, list, budget, profile)?;
+    if out.len() < (sum.kept as usize) {
+        return Err(full(sum));
+    }
+    if 0 < sum.kept {
+        fill_top(image, base, list, sum.dropped == 0, out);
+    }
+    Ok(sum)
+}
+
+// The subkeys of a key record with a subkey count and the offset of its list, into `out`. A refusal changes no place of it.
 pub fn sub_keys(
     image: &[u8],
     base: u32,
@@ -712,26 +710,13 @@ pub fn sub_keys(
     list: u32,
     budget: u32,
     out: &mut [u32],
-) -> WalkAnswer
+) -> Result<Counts, WalkRefusal>
     ensures { WalkAnswered image.now base count list budget out.old result out.new }
 {
-    match sub_key_counts(image, base, count, list, budget) {
-        WalkAnswer::Refused(fault) => WalkAnswer::Refused(fault),
-        WalkAnswer::Read(whole) => {
-            let kept = whole.kept;
-            let dropped = whole.dropped;
-            if out.len() < (kept as usize) {
-                return WalkAnswer::Refused(full(whole.lists, kept, whole.entries, dropped));
-            }
-            if 0 < kept {
-                fill_top(image, base, list, dropped == 0, out);
-            }
-            WalkAnswer::Read(whole)
-        }
-    }
+    sub_keys_by(image, base, count, list, budget, Profile::Ordinary, out)
 }
 
-// The same with each list read strictly. What strict accepts, the ordinary reading answers identically: so it is filled as that one is.
+// The same with each list read strictly. What strict accepts, the ordinary reading answers identically.
 pub fn strict_sub_keys(
     image: &[u8],
     base: u32,
@@ -740,21 +725,9 @@ pub fn strict_sub_keys(
     budget: u32,
     minor: u32,
     out: &mut [u32],
-) -> WalkAnswer
+) -> Result<Counts, WalkRefusal>
     ensures { StrictAnswered image.now base count list budget minor out.old result out.new }
 {
-    match strict_sub_key_counts(image, base, count, list, budget, minor) {
-        WalkAnswer::Refused(fault) => WalkAnswer::Refused(fault),
-        WalkAnswer::Read(sum) => {
-            let places = sum.kept;
-            let lost = sum.dropped;
-            if out.len() < (places as usize) {
-                return WalkAnswer::Refused(full(sum.lists, places, sum.entries, lost));
-            }
-            if 0 < places {
-                fill(image, base, LEVELS, list, lost == 0, out, 0);
-            }
-            WalkAnswer::Read(sum)
-        }
-    }
+    let profile = Profile::Strict { minor };
+    sub_keys_by(image, base, count, list, budget, profile, out)
 }

@@ -3,7 +3,6 @@
 #![tactic(auto)]
 
 mod commands;
-mod console;
 mod supplier;
 
 fn main(rt: HostRuntime) -> std::io::Result<()> {

@@ -23,19 +23,20 @@ use Rattle.value_data.specs.Pieces.{Piece, piece, sized, holds, judged}
 use Rattle.value_data.specs.Data.{TOP_BIT, is_resident, size_of, Source, field, pieces, segments_needed, big_head, big_in, big_at, list_of, list_piece, segments_at, from_list, in_segments, is_big, source_of}
 use Rattle.value_data.specs.Answers.{bytes_from, data_of, data_bytes, data_in, DataAnswered}
 use Rattle.value_data.specs.Whole.{MadeOf, WasCopied, WasRefused, FromPieces}
-use Rattle.value_data.specs.declared.DataAnswer.TheVariants.{Copied, Refused}
 use Rattle.value_data.proofs.Whole.{made, row-length}
+use Rattle.std.specs.Prelude.{Ok, Err}
+use Rattle.words.specs.Paper.{number_of}
 
 module _ (image : List ℕ) (base minor raw offset : ℕ) (old new : List ℕ) where
   -- where bytes were copied, the data was found
-  pub found : {n : ℕ} → DataAnswered image base minor raw offset old (Copied n) new
+  pub found : {n : ℕ} → DataAnswered image base minor raw offset old (Ok n) new
       → (n ≤ length old) × ((s : Source) × (data_of image base minor raw offset ≡ success s) × (size_of raw ≡ n))
   unfolding data_in
   found {n} x =
       let r = room_success needing (length old) (on_success (λ s. size_of raw) (data_of image base minor raw offset)) n (sym x.answer) in
       (r.1, on_success_of (λ s. size_of raw) (data_of image base minor raw offset) r.0)
 
-  pub copied : (n : ℕ) → DataAnswered image base minor raw offset old (Copied n) new → WasCopied image base minor raw offset old new n
+  pub copied : (n : ℕ) → DataAnswered image base minor raw offset old (Ok n) new → WasCopied image base minor raw offset old new n
   unfolding data_bytes data_of
   copied n x =
       let y = found x in
@@ -114,10 +115,10 @@ source_plain image base minor resident size offset =
 
 module _ (image : List ℕ) (base minor raw offset : ℕ) (old new : List ℕ) where
   -- where it is refused for want of room, the data was found
-  found-full : {f : RoomRefusal} → DataAnswered image base minor raw offset old (Refused f) new → f.number ≡ NO_ROOM
+  found-full : (f : RoomRefusal) → DataAnswered image base minor raw offset old (Err f) new → number_of f.reason ≡ NO_ROOM
       → (f.position ≡ 0) × (f.places ≡ size_of raw) × (length old < size_of raw) × ((s : Source) × (data_of image base minor raw offset ≡ success s))
   unfolding data_in data_of
-  found-full x n =
+  found-full f x n =
       let a : Paper Source = data_of image base minor raw offset in
       let p = source_plain image base minor (is_resident raw) (size_of raw) offset in
       let y = full_of_lem needing (length old) (on_success (λ s. size_of raw) a) (plainly_on _ a p) (sym x.answer) n in
@@ -126,5 +127,5 @@ module _ (image : List ℕ) (base minor raw offset : ℕ) (old new : List ℕ) w
       let l : length old < y.0 = y.3 in
       (sym (ap (λ (u : Told). u.position) y.2), sym (ap (λ (u : Told). u.places) y.2) ∙ k, omega arith, (z.0, z.1))
 
-  pub was_refused : (f : RoomRefusal) → DataAnswered image base minor raw offset old (Refused f) new → WasRefused image base minor raw offset old new f
-  was_refused f x = record { untouched = untouched x refl; no_room = found-full x }
+  pub was_refused : (f : RoomRefusal) → DataAnswered image base minor raw offset old (Err f) new → WasRefused image base minor raw offset old new f
+  was_refused f x = record { untouched = untouched x refl; no_room = found-full f x }

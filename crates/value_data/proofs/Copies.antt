@@ -1,44 +1,20 @@
--- The two loops that copy: the bytes of a slice, and the bytes of segments. Assumes nothing.
+-- The bytes of a slice and those of segments, copied into a buffer. Assumes nothing.
 use mathlib.Core.Path.{◌≡◌, refl, sym, ap, ◌∙◌}
 use mathlib.Core.List.{List, [], ◌∷◌, ◌++◌, append-nil}
 use Prim.Native.Nat.{ℕ, ◌+◌, ◌-◌, ◌≤◌, ◌<◌, min}
-use native.Mathlib.Numerals.{add-one}
 use native.Mathlib.Omega.{arith}
-use lib.ListN.{length, get_or, drop, set, length-append, length-take, length-set}
-use lib.Seq.{paste, paste-zero, paste-suc}
+use lib.ListN.{length, drop, length-append, length-take}
+use borrow.Rule.Slice.PartMut.{put_mid}
+use Rattle.std.proofs.lemmas.Slice.{put_mid-paste}
 use Rattle.writing.specs.Writing.{with_bytes}
 use Rattle.writing.proofs.Writing.{with_length, with_paste, with_more, with_none}
 use Rattle.value_data.specs.Pieces.{Piece, piece, bytes_in, joined, SEGMENT, segments}
 use Rattle.value_data.proofs.Pieces.{rest, joined-on, joined_end}
 
--- ---- the bytes of a slice, from a place of a buffer on: i of them are copied
+-- ---- the bytes of a slice, from a place of a buffer on: a part of it is written over, which has k places and then holds ys
 
-pub record Copying (old : List ℕ) (at : ℕ) (bytes out : List ℕ) (i : ℕ) : Type 0 where
-  pub within : i ≤ length bytes
-  pub room : at + length bytes ≤ length old
-  pub long : length out ≡ length old
-  pub so : out ≡ paste old at bytes i
-
-module _ (old : List ℕ) (at : ℕ) (bytes : List ℕ) where
-  pub copying_start : at + length bytes ≤ length old → Copying old at bytes old 0
-  copying_start h = record { within = omega arith; room = h; long = refl; so = paste-zero old at bytes }
-
-  module _ (out : List ℕ) (i : ℕ) (x : Copying old at bytes out i) where
-    pub copying_step : i < length bytes → Copying old at bytes (set out (at + i) (get_or bytes i 0)) (i + 1)
-    copying_step k =
-        let h = x.room in
-        record {
-          within = omega arith;
-          room = h;
-          long = length-set out (at + i) (get_or bytes i 0) ∙ x.long;
-          so = ap (λ (s : List ℕ). set s (at + i) (get_or bytes i 0)) x.so ∙ paste-suc old at bytes i 0 (omega arith) k ∙ rw add-one;
-        }
-
-    pub copying_done : length bytes ≤ i → out ≡ with_bytes old at bytes
-    copying_done k =
-        let l = x.within in
-        let e : i ≡ length bytes = omega arith in
-        x.so ∙ ap (paste old at bytes) e ∙ with_paste old at bytes
+pub part_written : (old : List ℕ) (at k : ℕ) (bytes ys : List ℕ) → k ≡ length bytes → ys ≡ bytes → put_mid at k old ys ≡ with_bytes old at bytes
+part_written old at k bytes ys e f = put_mid-paste at k old ys bytes (length bytes) f (sym e) refl ∙ with_paste old at bytes
 
 -- ---- the bytes of segments: what is left to copy makes of the buffer what was to be made of it at the start
 
@@ -76,10 +52,10 @@ module _ (image : List ℕ) (base : ℕ) (f : ℕ → ℕ) (n size : ℕ) (old :
   filling_start h = record { room = omega arith; long = refl; writes = refl }
 
   module _ (out : List ℕ) (at left i : ℕ) (x : Filling image base f n size old out at left i) where
-    -- entry i, which is w, where its segment has b bytes, and bs are the bytes of it
-    module _ (h : i < n) (w : ℕ) (e : w ≡ f i) (b : ℕ) (m : b ≡ min left SEGMENT) (bs : List ℕ) (y : bs ≡ bytes_in image (piece (w + base) b)) where
+    -- entry i, whose segment is in the cell at p and has b bytes, and bs are the bytes of it
+    module _ (h : i < n) (p : ℕ) (e : p ≡ f i + base) (b : ℕ) (m : b ≡ min left SEGMENT) (bs : List ℕ) (y : bs ≡ bytes_in image (piece p b)) where
       short : length bs ≤ b
-      short = omega (arith, ap length y, piece-short image (piece (w + base) b))
+      short = omega (arith, ap length y, piece-short image (piece p b))
 
       pub filling_fits : at + length bs ≤ length out
       filling_fits =
@@ -101,7 +77,7 @@ module _ (image : List ℕ) (base : ℕ) (f : ℕ → ℕ) (n size : ℕ) (old :
             writes =
                 with_more out at bs js (omega arith)
                 ∙ ap (λ (z : List ℕ). with_bytes out at (z ++ js)) y
-                ∙ ap (with_bytes out at) (sym (joined-on base f n image i left h w e b m)) ∙ x.writes;
+                ∙ ap (with_bytes out at) (sym (joined-on base f n image i left h p e b m)) ∙ x.writes;
           }
 
     pub filling_done : n ≤ i → out ≡ with_bytes old 0 (joined image (rest base f n 0 size))

@@ -9,17 +9,21 @@ use lib.ListN.{length, drop, drop_of_length-le}
 use lib.Seq.{drop-cons}
 use Rattle.words.specs.Paper.{Told, success, refused}
 use Rattle.words.proofs.Papers.{then_next, then_refused}
-use Rattle.cell.specs.Cells.{cell_at, cell_paper}
-use Rattle.cell.specs.declared.CellAnswer.{CellAnswer}
+use Rattle.cell.specs.Cells.{cell_at, fit_of}
 use Rattle.cell_key_node.specs.ValueList.{up_to}
 use Rattle.cell_key_node.proofs.Fill.{up_length, up_at}
 use Rattle.value_data.specs.Pieces.{Piece, piece, bytes_in, joined, sized, holds, judged, SEGMENT, segments}
+use Rattle.cell.specs.declared.Fit.{Fit}
 
 -- a cell, by what its answer is
-pub cell_verdict :
-    (image : List ℕ) (p n : ℕ) {a b : CellAnswer} → cell_paper a ≡ cell_at image p (4 + n) → a ≡ b → sized (cell_paper b) ≡ holds image (piece p n)
-unfolding holds
-cell_verdict image p n q e = ap (λ (x : CellAnswer). sized (cell_paper x)) (sym e) ∙ ap sized q
+module _ (image : List ℕ) (p n : ℕ) where
+  pub cell_verdict : {a b : Fit} → success (fit_of a) ≡ cell_at image p (4 + n) → a ≡ b → sized (success (fit_of b)) ≡ holds image (piece p n)
+  unfolding holds
+  cell_verdict q e = ap (λ (x : Fit). sized (success (fit_of x))) (sym e) ∙ ap sized q
+
+  pub cell_refused : {t : Told} → refused t ≡ cell_at image p (4 + n) → refused t ≡ holds image (piece p n)
+  unfolding holds
+  cell_refused q = ap sized q
 
 -- the segments of a list whose entries are f 0, f 1, .. before f n, from entry i on, where so many bytes are left
 module _ (base : ℕ) (f : ℕ → ℕ) (n : ℕ) where
@@ -48,20 +52,20 @@ module _ (base : ℕ) (f : ℕ → ℕ) (n : ℕ) where
     unfolding judged
     judged-end i left h = rw (rest_none i left h)
 
-    -- entry i, which is w, where its segment has b bytes
-    module _ (i left : ℕ) (h : i < n) (w : ℕ) (e : w ≡ f i) (b : ℕ) (m : b ≡ min left SEGMENT) where
-      here : rest i left ≡ piece (w + base) b ∷ rest (i + 1) (left - b)
-      here = rest_here i left h ∙ (λ k. piece (sym e k + base) (sym m k) ∷ rest (i + 1) (left_behind left b m k))
+    -- entry i, whose segment is in the cell at p and has b bytes
+    module _ (i left : ℕ) (h : i < n) (p : ℕ) (e : p ≡ f i + base) (b : ℕ) (m : b ≡ min left SEGMENT) where
+      here : rest i left ≡ piece p b ∷ rest (i + 1) (left - b)
+      here = rest_here i left h ∙ (λ k. piece (sym e k) (sym m k) ∷ rest (i + 1) (left_behind left b m k))
 
-      pub judged-on : holds image (piece (w + base) b) ≡ success tt → judged image (rest i left) ≡ judged image (rest (i + 1) (left - b))
+      pub judged-on : holds image (piece p b) ≡ success tt → judged image (rest i left) ≡ judged image (rest (i + 1) (left - b))
       unfolding judged
       judged-on q = ap (judged image) here ∙ then_next (judged image (rest (i + 1) (left - b))) q
 
-      pub judged-refused : {t : Told} → holds image (piece (w + base) b) ≡ refused t → judged image (rest i left) ≡ refused t
+      pub judged-refused : {t : Told} → holds image (piece p b) ≡ refused t → judged image (rest i left) ≡ refused t
       unfolding judged
       judged-refused q = ap (judged image) here ∙ then_refused (judged image (rest (i + 1) (left - b))) q
 
-      pub joined-on : joined image (rest i left) ≡ bytes_in image (piece (w + base) b) ++ joined image (rest (i + 1) (left - b))
+      pub joined-on : joined image (rest i left) ≡ bytes_in image (piece p b) ++ joined image (rest (i + 1) (left - b))
       unfolding joined
       joined-on = ap (joined image) here
 

@@ -1,16 +1,17 @@
 -- Where a value's data is: one law for each way in which it is found or refused. Assumes nothing.
-use mathlib.Core.Path.{◌≡◌, sym}
+use mathlib.Core.Path.{◌≡◌, sym, ap, ◌∙◌}
 use mathlib.Core.List.{List, [], ◌∷◌}
 use mathlib.Core.Bool.{Bool, true, false}
 use Prim.{tt}
-use Prim.Native.Nat.{ℕ, ◌+◌, ◌≤◌, ◌<◌}
+use Prim.Native.Nat.{ℕ, ◌+◌, ◌*◌, ◌≤◌, ◌<◌}
 use lib.ListN.{drop}
 use borrow.Author.Tests.{lt-ltb, le-ltb, eq-eqb, ne_eqb}
+use Rattle.words.specs.Words.{word32}
 use Rattle.words.specs.Paper.{Told, success, refused, by, on_success, and_then}
 use Rattle.words.specs.Refusals.{BAD_DATA}
 use Rattle.cell_key_node.specs.ValueList.{up_to, entry_of}
 use Rattle.value_data.specs.Pieces.{Piece, piece, holds, judged, segments}
-use Rattle.value_data.specs.Data.{field, pieces, whole, segments_needed, big_at, list_of, list_piece, segments_at, from_list, in_segments, is_big, source_of}
+use Rattle.value_data.specs.Data.{field, pieces, whole, segments_needed, big_at, list_piece, segments_at, from_list, in_segments, is_big, source_of}
 
 -- ---- in one cell
 
@@ -25,37 +26,41 @@ module _ (image : List ℕ) (q : Piece) where
 
 -- ---- in segments
 
--- those that a reader goes through, who has the list and their number
-pub these_segments :
-    (image : List ℕ) (base l size : ℕ) {list : List ℕ} {count : ℕ} → list ≡ drop l image → count ≡ segments_needed size
-    → segments_at image base l size ≡ segments base (up_to (entry_of list) count) size
-unfolding segments_at
-these_segments image base l size d n = λ i. segments base (up_to (entry_of (sym d i)) (sym n i)) size
+-- by the cell of their list, at l, and theirs: a reader knows how many they are, and has the list
+module _ (image : List ℕ) (base l size : ℕ) {count : ℕ} (n : count ≡ segments_needed size) where
+  same_cell : holds image (list_piece l size) ≡ holds image (piece l (4 * count))
+  same_cell = ap (λ (m : ℕ). holds image (piece l (4 * m))) (sym n)
 
--- by the cell of their list, at l, and theirs
-module _ (image : List ℕ) (base l size : ℕ) where
-  pub list-refused : {t : Told} → holds image (list_piece l size) ≡ refused t → refused t ≡ from_list image base l size
+  pub list-refused : {t : Told} → holds image (piece l (4 * count)) ≡ refused t → refused t ≡ from_list image base l size
   unfolding from_list and_then
-  list-refused e = rw e
+  list-refused e = rw (same_cell ∙ e)
 
-  module _ (e : holds image (list_piece l size) ≡ success tt) where
-    pub segments-refused : {t : Told} → judged image (segments_at image base l size) ≡ refused t → refused t ≡ from_list image base l size
-    unfolding from_list and_then on_success
-    segments-refused j = rw (e, j)
+  module _ {list : List ℕ} (d : list ≡ drop l image) where
+    pub these_segments : segments_at image base l size ≡ segments base (up_to (entry_of list) count) size
+    unfolding segments_at
+    these_segments = λ i. segments base (up_to (entry_of (sym d i)) (sym n i)) size
 
-    pub segments-whole : judged image (segments_at image base l size) ≡ success tt → success (pieces (segments_at image base l size)) ≡ from_list image base l size
-    unfolding from_list and_then on_success
-    segments-whole j = rw (e, j)
+    module _ (e : holds image (piece l (4 * count)) ≡ success tt) where
+      pub segments-refused : {t : Told} → judged image (segments base (up_to (entry_of list) count) size) ≡ refused t → refused t ≡ from_list image base l size
+      unfolding from_list and_then on_success
+      segments-refused j = rw (same_cell ∙ e, ap (judged image) these_segments ∙ j)
 
--- by the `db` cell at p
-module _ (image : List ℕ) (base p size : ℕ) where
-  pub big_refused : {t : Told} → big_at image p (segments_needed size) ≡ refused t → refused t ≡ in_segments image base p size
+      pub segments-whole : judged image (segments base (up_to (entry_of list) count) size) ≡ success tt → success (pieces (segments_at image base l size)) ≡ from_list image base l size
+      unfolding from_list and_then on_success
+      segments-whole j = rw (same_cell ∙ e, ap (judged image) these_segments ∙ j)
+
+-- by the `db` cell at p, whose list's offset is w
+module _ (image : List ℕ) (base p size : ℕ) {count : ℕ} (n : count ≡ segments_needed size) where
+  same_head : big_at image p (segments_needed size) ≡ big_at image p count
+  same_head = ap (big_at image p) (sym n)
+
+  pub big_refused : {t : Told} → big_at image p count ≡ refused t → refused t ≡ in_segments image base p size
   unfolding in_segments and_then
-  big_refused e = rw e
+  big_refused e = rw (same_head ∙ e)
 
-  pub big_whole : big_at image p (segments_needed size) ≡ success tt → from_list image base (list_of image base p) size ≡ in_segments image base p size
+  pub big_whole : {w : ℕ} → w ≡ word32 (drop p image) 8 → big_at image p count ≡ success tt → from_list image base (w + base) size ≡ in_segments image base p size
   unfolding in_segments and_then
-  big_whole e = rw e
+  big_whole o e = rw (same_head ∙ e) (ap (λ (w : ℕ). from_list image base (w + base) size) o)
 
 -- ---- all of it
 

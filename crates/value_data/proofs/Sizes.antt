@@ -1,6 +1,6 @@
 -- The number of segments that a size needs: enough, and the least that is. Assumes nothing.
 use mathlib.Core.Path.{◌≡◌}
-use Prim.Native.Nat.{ℕ, ◌+◌, ◌*◌, ◌/◌, ◌%◌, ◌≤◌}
+use Prim.Native.Nat.{ℕ, ◌+◌, ◌*◌, ◌/◌, ◌%◌, ◌≤◌, min}
 use native.Mathlib.Omega.{arith}
 use mir.Syntax.{w32}
 use mir.Val.{Fits}
@@ -15,14 +15,10 @@ pub needed-least : (size n : ℕ) → size ≤ n * SEGMENT → segments_needed s
 unfolding segments_needed
 needed-least size n h = omega arith
 
--- by a division
-pub needed-full : (size : ℕ) → size % SEGMENT ≡ 0 → size / SEGMENT ≡ segments_needed size
+-- by a division, rounded up
+pub needed_ceil : (size : ℕ) → size / SEGMENT + min 1 (size % SEGMENT) ≡ segments_needed size
 unfolding segments_needed
-needed-full size e = omega arith
-
-pub needed_rest : (size : ℕ) → (size % SEGMENT ≡ 0 → ⊥) → size / SEGMENT + 1 ≡ segments_needed size
-unfolding segments_needed
-needed_rest size e = omega arith
+needed_ceil size = omega arith
 
 -- 4 bytes a segment fit in 32 bits
 pub needed_fits : (size : ℕ) → Fits w32 size → Fits w32 (4 * segments_needed size)

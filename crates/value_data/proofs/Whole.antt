@@ -16,7 +16,7 @@ use Rattle.writing.proofs.Writing.{bytes_length}
 use Rattle.cell.specs.Cells.{Cell, held, too_small, magnitude_at, cell_at}
 use Rattle.cell.specs.Exactly.{Reads}
 use Rattle.cell.specs.declared.CellSize.{CellSize}
-use Rattle.cell.specs.declared.CellAnswer.TheVariants.{Held}
+use Rattle.cell.specs.declared.Fit.TheVariants.{Held}
 use Rattle.cell.proofs.Cells.{cell-held}
 use Rattle.cell.proofs.Exactly.{held_reads}
 use Rattle.cell_key_node.specs.ValueList.{up_to, entry_of}
@@ -26,6 +26,7 @@ use Rattle.value_data.specs.Data.{Source, field, pieces, whole, segments_needed,
 use Rattle.value_data.specs.Answers.{bytes_from}
 use Rattle.value_data.specs.Whole.{total, at, FullButLast, Lies, MadeOf, Passes, FirstFault}
 use Rattle.value_data.proofs.Sizes.{needed_enough, needed-least}
+use Rattle.std.specs.Prelude.{Ok}
 
 -- ---- one cell
 
@@ -35,7 +36,7 @@ holds_lies image q e = go (cell_at image q.cell (4 + q.long)) refl e
   where
     go : (a : Paper Cell) → cell_at image q.cell (4 + q.long) ≡ a → sized a ≡ success tt → Lies image q
     go (success (held z)) x y =
-        let r : Reads image q.cell (4 + q.long) z = held_reads image q.cell (4 + q.long) (Held z) (sym x) refl in
+        let r : Reads image q.cell (4 + q.long) z = held_reads image q.cell (4 + q.long) (Ok (Held z)) (sym x) refl in
         let m : z.magnitude ≡ magnitude_at image q.cell = ap (λ (w : CellSize). w.magnitude) r.size in
         let n = r.enough in
         let i = r.inside in

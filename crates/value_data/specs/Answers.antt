@@ -1,16 +1,15 @@
 -- Document 02, order 1: "Copy a value's data into a lent buffer". The answer, and the buffer after it.
 use Rattle.std.specs.Prelude.{ℕ, List, [], ◌∷◌, length}
-use Rattle.words.specs.Paper.{Paper, success, refused, told, told_of_room, on_success}
+use Rattle.words.specs.Paper.{Paper, success, refused, told, told_of_room, paper_of, on_success}
 use Rattle.words.specs.Buffers.{needing, in_room, Answered}
 use Rattle.writing.specs.Writing.{bytes_of}
 use Rattle.value_data.specs.Pieces.{piece, joined}
 use Rattle.value_data.specs.Data.{is_resident, size_of, Source, field, pieces, segments_at, source_of}
 use Rattle.value_data.specs.declared.DataPlace.{DataPlace}
 use Rattle.value_data.specs.declared.DataPlace.TheVariants.{Nothing, Field, Cell, Segments}
-use Rattle.value_data.specs.declared.FindAnswer.{FindAnswer}
-use Rattle.value_data.specs.declared.FindAnswer.TheVariants.{Found, Refused as NotFound}
-use Rattle.value_data.specs.declared.DataAnswer.{DataAnswer}
-use Rattle.value_data.specs.declared.DataAnswer.TheVariants.{Copied, Refused as NoData}
+use Rattle.std.specs.declared.result.Result.{Result}
+use Rattle.words.specs.declared.Refusal.{Refusal}
+use Rattle.words.specs.declared.RoomRefusal.{RoomRefusal}
 
 -- "the data is the first bytes of the offset field", the lowest first; or the pieces, one behind another
 abbrev pub bytes_from : List ℕ → ℕ → ℕ → Source → List ℕ
@@ -39,15 +38,13 @@ source_at image base size Field = field
 source_at image base size (Cell p) = pieces (piece p size ∷ [])
 source_at image base size (Segments l) = pieces (segments_at image base l size)
 
-abbrev pub find_paper : List ℕ → ℕ → ℕ → FindAnswer → Paper Source
-find_paper image base size (Found place) = success (source_at image base size place)
-find_paper image base size (NotFound f) = refused (told f)
+abbrev pub find_paper : List ℕ → ℕ → ℕ → Result DataPlace Refusal → Paper Source
+find_paper image base size = paper_of (source_at image base size) told
 
-abbrev pub data_paper : DataAnswer → Paper ℕ
-data_paper (Copied n) = success n
-data_paper (NoData f) = refused (told_of_room f)
+abbrev pub data_paper : Result ℕ RoomRefusal → Paper ℕ
+data_paper = paper_of (λ n. n) told_of_room
 
 -- the answer r for a record's numbers, and the buffer's contents before and after it
-abbrev pub DataAnswered : List ℕ → ℕ → ℕ → ℕ → ℕ → List ℕ → DataAnswer → List ℕ → Type 0
+abbrev pub DataAnswered : List ℕ → ℕ → ℕ → ℕ → ℕ → List ℕ → Result ℕ RoomRefusal → List ℕ → Type 0
 DataAnswered image base minor raw offset old r new =
     Answered (data_paper r) (data_in image base minor raw offset (length old)) (data_bytes image base minor raw offset) old new

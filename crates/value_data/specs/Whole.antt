@@ -12,7 +12,8 @@ use Rattle.cell_key_value.specs.declared.KeyValue.{KeyValue}
 use Rattle.value_data.specs.Pieces.{Piece, piece, joined, holds, judged, SEGMENT}
 use Rattle.value_data.specs.Data.{TOP_BIT, size_of, Source, field, pieces, whole, segments_needed, in_segments, source_of}
 use Rattle.value_data.specs.Answers.{data_of, data_bytes, DataAnswered}
-use Rattle.value_data.specs.declared.DataAnswer.TheVariants.{Copied}
+use Rattle.std.specs.Prelude.{Ok}
+use Rattle.words.specs.Paper.{number_of}
 
 -- ---- a row of pieces
 
@@ -64,14 +65,14 @@ module _ (image : List ℕ) (base minor raw offset : ℕ) (old new : List ℕ) w
   -- it was refused: no place of the buffer has changed; and 9 is given only where all else succeeds, with the places needed
   pub record WasRefused (f : RoomRefusal) : Type 0 where
     pub untouched : new ≡ old
-    pub no_room : f.number ≡ NO_ROOM → (f.position ≡ 0) × (f.places ≡ size_of raw) × (length old < size_of raw) × ((s : Source) × (data_of image base minor raw offset ≡ success s))
+    pub no_room : number_of f.reason ≡ NO_ROOM → (f.position ≡ 0) × (f.places ≡ size_of raw) × (length old < size_of raw) × ((s : Source) × (data_of image base minor raw offset ≡ success s))
 
 -- ---- data that is not resident: what was copied are the bytes of such pieces, one behind another
 
 abbrev pub FromPieces : Type 0
 FromPieces =
     (image : List ℕ) (base minor raw offset : ℕ) (old new : List ℕ) (n : ℕ) → raw < TOP_BIT
-    → DataAnswered image base minor raw offset old (Copied n) new
+    → DataAnswered image base minor raw offset old (Ok n) new
     → (qs : List Piece) × MadeOf image n qs × (take n new ≡ joined image qs)
 
 -- ---- resident data: of a record that was read, the image's own bytes from the record's position plus 12
@@ -80,7 +81,7 @@ abbrev pub Resident : Type 0
 Resident =
     (image : List ℕ) → ((i : ℕ) → byte_at image i < 256) → (position : ℕ) (v : KeyValue) → value_at image position ≡ success v
     → TOP_BIT ≤ v.data_size_raw → (base minor : ℕ) (old new : List ℕ) (n : ℕ)
-    → DataAnswered image base minor v.data_size_raw v.data_offset_relative old (Copied n) new
+    → DataAnswered image base minor v.data_size_raw v.data_offset_relative old (Ok n) new
     → take n new ≡ take n (drop (position + 12) image)
 
 -- ---- no `db` cell counts more than 65,535 segments: from minor version 4 on a larger size is never copied
@@ -88,7 +89,7 @@ Resident =
 abbrev pub TooLarge : Type 0
 TooLarge =
     (image : List ℕ) → ((i : ℕ) → byte_at image i < 256) → (base minor raw offset : ℕ) (old new : List ℕ) (n : ℕ) → 3 < minor → raw < TOP_BIT
-    → 65535 * SEGMENT < raw → DataAnswered image base minor raw offset old (Copied n) new → ⊥
+    → 65535 * SEGMENT < raw → DataAnswered image base minor raw offset old (Ok n) new → ⊥
 
 -- ---- where the limits lie
 

@@ -1,36 +1,17 @@
 -- Laws of the parts of a row, and of a lent slice. Assumes nothing.
 use mathlib.Core.Path.{◌≡◌, sym, ap, ◌∙◌}
 use mathlib.Core.List.{List, []}
-use Prim.Native.Nat.{ℕ, ◌+◌, ◌-◌, ◌≤◌}
-use native.Mathlib.Nat.{add-sub_cancel_left, le_refl}
+use Prim.Native.Nat.{ℕ, ◌+◌, ◌≤◌}
 use native.Mathlib.Decide.{ℕ_discrete}
 use native.Mathlib.Omega.{arith}
-use lib.ListN.{length, take, drop, length-drop, length-take, drop_of_length-le}
-use lib.Seq.{take-nil, take_all, get_or-take, get_or-drop}
+use lib.ListN.{length, take, drop, length-drop, length-take}
+use lib.Seq.{get_or-take, get_or-drop}
 use denote.Ref.{Bor}
 use denote.Slice.{slice_val}
 use borrow.Author.Tests.{eq-eqb, ne_eqb}
 use Rattle.words.specs.Parts.{Part, Lies}
 use Rattle.words.specs.Words.{byte_at}
 use Rattle.words.specs.Paper.{handed, handed_at}
-
-module _ (s : List ℕ) (at : ℕ) where
-  pub from_none : length s ≤ at → take (length s - length s) (drop (length s) s) ≡ drop at s
-  from_none h =
-      ap (take (length s - length s)) (drop_of_length-le s (le_refl (length s))) ∙ take-nil (length s - length s)
-      ∙ sym (drop_of_length-le s h)
-
-  pub from_rest : take (length s - at) (drop at s) ≡ drop at s
-  from_rest = take_all (length s - at) (drop at s) (simp length-drop (omega arith))
-
-  pub part_none : (n : ℕ) → length s ≤ at → take (length s - length s) (drop (length s) s) ≡ take n (drop at s)
-  part_none n h = from_none h ∙ drop_of_length-le s h ∙ sym (ap (take n) (drop_of_length-le s h) ∙ take-nil n)
-
-  pub part_some : (n : ℕ) → take ((at + n) - at) (drop at s) ≡ take n (drop at s)
-  part_some n = ap (λ (k : ℕ). take k (drop at s)) (add-sub_cancel_left at n)
-
-  pub part_rest : (n : ℕ) → length s - at ≤ n → take (length s - at) (drop at s) ≡ take n (drop at s)
-  part_rest n h = from_rest ∙ sym (take_all n (drop at s) (simp length-drop (omega arith)))
 
 -- one place, told by two equal distances
 pub moved : (p : ℕ × ℕ) {a b : ℕ} → a ≡ b → ◌≡◌ {A = ℕ × ℕ} (p.0, a + p.1) (p.0, b + p.1)

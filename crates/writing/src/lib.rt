@@ -9,27 +9,20 @@ ghost use Rattle.writing.specs.Writing.{PutAt};
 fn has_room(room: usize, at: usize, n: usize) -> bool
     ensures { result ≡ leb (at + n) room }
 {
-    if room < at {
-        return false;
-    }
-    n <= room - at
+    at <= room && n <= room - at
 }
 
 // `n` bytes of a number from a place on, the lowest first: whether they all fit. Where they do not, none is written.
 pub fn put_bytes(out: &mut [u8], at: usize, n: usize, x: u64) -> bool
     ensures { PutAt n x at out.old result out.new }
 {
-    let room = out.len();
-    if !has_room(room, at, n) {
+    if !has_room(out.len(), at, n) {
         return false;
     }
     let mut rest = x;
-    let mut i: usize = 0;
-    while i < n {
-        let low = (rest % 256) as u8;
-        out[at + i] = low;
-        rest = rest / 256;
-        i = i + 1;
+    for i in 0..n {
+        out[at + i] = (rest % 256) as u8;
+        rest /= 256;
     }
     true
 }

@@ -1,17 +1,18 @@
 use mathlib.Core.Path.{refl, sym, ◌∙◌}
+use Rattle.words.proofs.Papers.{numbered}
 use Rattle.words.proofs.Parts.{retold, handed_part, handed-none}
 use Rattle.base_block.specs.Block.{part_of, part_at}
 use Rattle.base_block.proofs.Parts.{in_block}
 use Rattle.base_block.proofs.block_part.Goals as goal
 
-pub returns-then-number-eq0 : goal.returns-then-number-eq0
+pub returns-in-None : goal.returns-in-None
 unfolding part_of part_at
-returns-then-number-eq0 c =
+returns-in-None c =
     let a = c.args in
-    let f = sym c.fault-number.ensures ∙ c.if-number-eq0.true in
+    let f = sym c.in-None.ensures in
     handed_part f (retold (in_block a.image.now a.at f c.requires) refl c.part.ensures)
 
-pub returns-else-number-eq0 : goal.returns-else-number-eq0
+pub returns-in-Some : goal.returns-in-Some
 unfolding part_of part_at
-returns-else-number-eq0 c =
-    handed-none _ _ _ (λ e. c.if-number-eq0.false (c.fault-number.ensures ∙ e)) (record { bytes = refl; place = refl })
+returns-in-Some c =
+    handed-none _ _ _ (λ e. numbered _ (c.in-Some.ensures ∙ e)) (record { bytes = refl; place = refl })

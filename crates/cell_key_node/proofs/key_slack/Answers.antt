@@ -5,19 +5,17 @@ use Rattle.cell_key_node.proofs.Records.{passed, failed}
 use Rattle.cell_key_node.proofs.Places.{slack_placed}
 use Rattle.cell_key_node.proofs.key_slack.Goals as goal
 
-pub returns-in-Refused : goal.returns-in-Refused
+pub returns-in_default : goal.returns-in_default
 unfolding key_slack key_slack_at key_fault
-returns-in-Refused c =
-    let a = c.args in
-    handed-none _ _ _ (failed a.image.now a.position 80 0x6B6E 76 c.check_record.ensures c.in-Refused.is) (record { bytes = refl; place = refl })
+returns-in_default c =
+    handed-none _ _ _ (failed _ _ _ _ _ c.in_default.ensures) (record { bytes = refl; place = refl })
 
-pub returns-in-Whole : goal.returns-in-Whole
+pub returns : goal.returns
 unfolding key_slack key_slack_at key_fault
-returns-in-Whole c =
-    let a = c.args in
-    let f = passed a.image.now a.position 80 0x6B6E 76 c.check_record.ensures c.in-Whole.is in
+returns c =
+    let f = passed _ _ _ _ _ c.in-Ok.ensures in
     handed_part f
-    (slack_placed a.position 80 0x6B6E 76 c.from-cell.ensures f
+    (slack_placed c.args.position 80 0x6B6E 76 c.from-cell.ensures f
     c.size_of-size.ensures
     c.u16_at-name.ensures
     c.part-whole.ensures

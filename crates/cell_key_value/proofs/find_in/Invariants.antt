@@ -1,4 +1,3 @@
-use Prim.Native.Nat.{◌≤◌, ◌-◌}
 use mathlib.Core.Path.{◌≡◌}
 use lib.ListN.{drop}
 use Rattle.cell_key_node.specs.ValueList.{up_to, entry_of}
@@ -7,8 +6,4 @@ use Rattle.cell_key_value.proofs.find_in.Given as goal
 
 abbrev pub invariant-loop-i : goal.invariant-loop-i
 invariant-loop-i l =
-    (l.i ≤ l.count) × (look_through l.image l.base l.name (drop l.i (up_to (entry_of l.list) l.count)) ≡ look_through l.image l.base l.name (up_to (entry_of l.list) l.count))
-
-abbrev pub decreases-loop-i : goal.decreases-loop-i
-decreases-loop-i l =
-    l.count - l.i
+    look_through l.image l.base l.name (drop l.i (up_to (entry_of l.list) l.count)) ≡ look_through l.image l.base l.name (up_to (entry_of l.list) l.count)

@@ -1,24 +1,13 @@
-use mathlib.Core.Path.{◌∙◌}
 use native.Mathlib.Omega.{arith}
 use Rattle.hive_bin.proofs.Steps.{no_cell_in, cell_fits, a_cell_in}
 use Rattle.hive_bin.proofs.cell_in.Goals as goal
 
-pub returns-then-size-eq0 : goal.returns-then-size-eq0
-returns-then-size-eq0 c =
-    let w = c in
-    let a = w.args in
-    c.no_step.ensures
-    ∙ no_cell_in a.bins.now a.bin a.over a.place w.i32_at-word.type_inv w.i32_at-word.ensures c.left_in-left.ensures c.cell_size-size.ensures c.if-size-eq0.true
+pub returns-in_default : goal.returns-in_default
+returns-in_default c = no_cell_in _ _ _ _ c.i32_at-word.type_inv c.i32_at-word.ensures c.in_default.ensures
 
 pub overflow_add-place : goal.overflow_add-place
 overflow_add-place c =
-    let w = c in
-    let a = w.args in
-    let f = cell_fits a.bins.now a.bin a.over a.place w.i32_at-word.type_inv w.i32_at-word.ensures c.left_in-left.ensures c.cell_size-size.ensures (omega arith) in
-    omega arith
+    let f = cell_fits _ _ _ _ c.i32_at-word.type_inv c.i32_at-word.ensures c.in-Some.ensures in omega arith
 
 pub returns : goal.returns
-returns c =
-    let w = c in
-    let a = w.args in
-    a_cell_in a.bins.now a.bin a.over a.place w.i32_at-word.type_inv w.i32_at-word.ensures c.left_in-left.ensures c.cell_size-size.ensures (omega arith) c.next_of-next.ensures
+returns c = a_cell_in _ _ _ _ c.i32_at-word.type_inv c.i32_at-word.ensures c.in-Some.ensures c.next_of-next.ensures

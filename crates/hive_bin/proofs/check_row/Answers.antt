@@ -1,84 +1,47 @@
+use Rattle.std.proofs.Common.{rules}
+use Rattle.std.proofs.lemmas.Result.{err_from_is_err_and}
 use native.Mathlib.Omega.{arith}
-use mathlib.Core.Path.{◌∙◌}
-use Rattle.hive_bin.specs.Walk.{bin_row, bins_in}
-use Rattle.hive_bin.proofs.Sums.{starts, ends, stops, fails, room, goes}
-use Rattle.hive_bin.proofs.Pieces.{bins_sound, bins_whole, bin_size_held, bin_told, bin_fails, bin_room, bin_adds_held}
+use Rattle.hive_bin.specs.Walk.{bins_in}
+use Rattle.hive_bin.proofs.Pieces.{bins_sound, bin_told, bin_room, bins_stop, bins_fail, bins_room, bins_go}
+use Rattle.hive_bin.proofs.Sums.{starts, ends}
 use Rattle.hive_bin.proofs.check_row.Goals as goal
 
 pub loop-left-init : goal.loop-left-init
-loop-left-init c =
-    starts _ _ _ c.no_totals-totals.ensures
+loop-left-init c = starts _ _ _ (search rules)
 
-pub returns-then-size-eq0 : goal.returns-then-size-eq0
-unfolding bins_in bin_row
-returns-then-size-eq0 c =
-    let q = c in
-    let so = q.loop-left.invariant in
-    let size = bin_size_held _ _ _ q.bin_size-size.ensures in
-    stops so (bins_sound _) q.loop-left-test.true (size ∙ c.if-size-eq0.true)
-
-pub overflow_add-at : goal.overflow_add-at
-overflow_add-at c =
-    let k = bin_told _ _ _ c.bin_size-size.ensures (omega arith) in omega arith
+pub returns-in_default : goal.returns-in_default
+unfolding bins_in
+returns-in_default c = bins_stop _ c.loop-left.invariant c.loop-left-test.true c.in_default.ensures
 
 pub overflow_sub-size : goal.overflow_sub-size
-overflow_sub-size c =
-    let k = bin_told _ _ _ c.bin_size-size.ensures (omega arith) in omega arith
+overflow_sub-size c = (bin_told _ _ _ c.in-Some.ensures).0
 
 pub check_cells-requires : goal.check_cells-requires
-check_cells-requires c =
-    let k = bin_told _ _ _ c.bin_size-size.ensures (omega arith) in omega arith
+check_cells-requires c = let k = bin_told _ _ _ c.in-Some.ensures in omega arith
 
-pub sum-requires : goal.sum-requires
-sum-requires c =
-    let q = c in
-    bin_room _ _ _ q.bin_size-size.ensures (omega arith) _ c.check_cells.ensures c.in-Totals.is c.one_bin.ensures (omega arith)
+pub returns-in_err-cells : goal.returns-in_err-cells
+unfolding bins_in
+returns-in_err-cells c =
+    let p = err_from_is_err_and c.from_residual.result c.from_residual.ensures.1 in
+    rw (p.1, p.2) (bins_fail _ c.loop-left.invariant c.in-Some.ensures c.check_cells.ensures c.in_err-cells.was)
 
-pub sum-totals-requires : goal.sum-totals-requires
-sum-totals-requires c =
-    let q = c in
-    let so = q.loop-left.invariant in
-    let size = bin_size_held _ _ _ q.bin_size-size.ensures in
-    let adds = bin_adds_held _ _ _ q.bin_size-size.ensures (omega arith) _ c.check_cells.ensures c.in-Totals.is c.one_bin.ensures c.sum.ensures in
-    room so (bins_sound _) size (omega arith) (bins_whole _) adds (omega arith)
+pub plus-requires : goal.plus-requires
+plus-requires c = bin_room _ _ _ c.in-Some.ensures _ c.check_cells.ensures c.in_ok-cells.was c.one_bin.ensures (omega arith)
 
-pub overflow_add-at-in-Totals : goal.overflow_add-at-in-Totals
-overflow_add-at-in-Totals c =
-    let q = c in
-    let so = q.loop-left.invariant in
-    let k = bin_told _ _ _ q.bin_size-size.ensures (omega arith) in
-    omega (arith, so.place, q.well_formed.0)
+pub plus-totals-requires : goal.plus-totals-requires
+plus-totals-requires c =
+    bins_room _ c.loop-left.invariant c.in-Some.ensures c.check_cells.ensures c.in_ok-cells.was c.one_bin.ensures c.plus.ensures (omega arith)
+
+pub overflow_add-at-in-loop-left : goal.overflow_add-at-in-loop-left
+overflow_add-at-in-loop-left c = let k = bin_told _ _ _ c.in-Some.ensures in omega arith
 
 pub overflow_sub-left : goal.overflow_sub-left
-overflow_sub-left c =
-    let q = c in
-    let k = bin_told _ _ _ q.bin_size-size.ensures (omega arith) in
-    omega arith
-
-pub loop-left-smaller : goal.loop-left-smaller
-loop-left-smaller c =
-    let q = c in
-    let k = bin_told _ _ _ q.bin_size-size.ensures (omega arith) in
-    omega arith
+overflow_sub-left c = (bin_told _ _ _ c.in-Some.ensures).1
 
 pub loop-left-preserved : goal.loop-left-preserved
 loop-left-preserved c =
-    let q = c in
-    let so = q.loop-left.invariant in
-    let size = bin_size_held _ _ _ q.bin_size-size.ensures in
-    let adds = bin_adds_held _ _ _ q.bin_size-size.ensures (omega arith) _ c.check_cells.ensures c.in-Totals.is c.one_bin.ensures c.sum.ensures in
-    goes so (bins_sound _) size (omega arith) (bins_whole _) adds c.sum-totals.ensures
-
-pub returns-in-Refused : goal.returns-in-Refused
-unfolding bins_in
-returns-in-Refused c =
-    let q = c in
-    let so = q.loop-left.invariant in
-    let size = bin_size_held _ _ _ q.bin_size-size.ensures in
-    let bad = bin_fails _ _ _ q.bin_size-size.ensures (omega arith) _ c.check_cells.ensures c.in-Refused.is in
-    fails so (bins_sound _) size (omega arith) bad
+    bins_go _ c.loop-left.invariant c.in-Some.ensures c.check_cells.ensures c.in_ok-cells.was c.one_bin.ensures c.plus.ensures c.plus-totals.ensures
 
 pub returns : goal.returns
 unfolding bins_in
-returns c =
-    ends c.loop-left.invariant (bins_sound _) c.loop-left-test.false
+returns c = ends c.loop-left.invariant (bins_sound _) c.loop-left-test.false

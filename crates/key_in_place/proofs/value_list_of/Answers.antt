@@ -1,23 +1,13 @@
-use mathlib.Core.Path.{ap, refl}
-use mathlib.Core.Bool.{not}
-use lib.ListN.{length}
+use mathlib.Core.Path.{refl}
+use Rattle.key_in_place.proofs.Behind.{answered_elsewhere, answered_here}
 use Rattle.words.proofs.Signed.{back}
-use Rattle.cell_key_node.specs.ValueList.{value_list_of, entries_of}
-use Rattle.key_in_place.proofs.Behind.{answered_here, answered_elsewhere}
 use borrow.Author.Rules.{rules}
 use Rattle.key_in_place.proofs.value_list_of.Goals as goal
 
-pub returns-then-not-same : goal.returns-then-not-same
-returns-then-not-same c =
-    let a = c.args in
-    answered_elsewhere a.image.now a.key c.is_in_place-same.ensures (ap not c.if-not-same.true)
-    (value_list_of a.image.now a.key.base a.key.number_of_key_values a.key.key_values_list_offset_relative (length a.out.now))
-    (entries_of a.image.now a.key.base a.key.number_of_key_values a.key.key_values_list_offset_relative) a.out.now refl
+pub returns-in_err-only_if : goal.returns-in_err-only_if
+returns-in_err-only_if c =
+    answered_elsewhere _ _ _ c.is_in_place.ensures _ _ c.from_residual.ensures c.in_err-only_if.ensures _ _ refl _ _ _
 
 pub returns : goal.returns
 returns c =
-    let a = c.args in
-    answered_here a.image.now a.key c.is_in_place-same.ensures (ap not c.if-not-same.false)
-    (value_list_of a.image.now a.key.base a.key.number_of_key_values a.key.key_values_list_offset_relative (length a.out.now))
-    (entries_of a.image.now a.key.base a.key.number_of_key_values a.key.key_values_list_offset_relative) a.out.now
-    (rw (back a.key.key_values_list_offset_relative (search rules)) at c.value_list.ensures)
+    answered_here _ _ _ c.is_in_place.ensures _ _ c.in_ok-only_if.ensures (rw (back c.args.key.key_values_list_offset_relative (search rules)) at c.value_list.ensures)

@@ -1,14 +1,11 @@
-use Rattle.std.proofs.Common.{ap, ◌∙◌}
+use Rattle.std.proofs.Common.{ap, refl, ◌∙◌}
 use Rattle.words.specs.Paper.{refused}
+use Rattle.key_totals.proofs.Places.{found_none, found_some}
 use Rattle.key_totals.proofs.Calls.{number_nowhere, number_there}
 use Rattle.key_totals.proofs.kept_of.Goals as goal
 
-pub returns-then-at-ge-PLACES : goal.returns-then-at-ge-PLACES
-returns-then-at-ge-PLACES c =
-    let a = c.args in
-    ap refused c.told.ensures ∙ number_nowhere a.table a.position c.first-at.ensures c.if-at-ge-PLACES.true
+pub returns-in-None : goal.returns-in-None
+returns-in-None c = ap refused c.told.ensures ∙ number_nowhere _ _ refl (found_none _ c.in-None.ensures.place)
 
-pub returns : goal.returns
-returns c =
-    let a = c.args in
-    number_there a.table a.position c.first-at.ensures c.if-at-ge-PLACES.false
+pub returns-in-Some : goal.returns-in-Some
+returns-in-Some c = let k = found_some _ c.in-Some.ensures.place in number_there _ _ k.0 k.1

@@ -5,16 +5,12 @@ use Rattle.key_totals.specs.Table.{free, outcome, refusing, laid}
 use Rattle.key_totals.proofs.Calls.{remove-nowhere, removed}
 use Rattle.key_totals.proofs.remove.Goals as goal
 
-pub returns-then-at-ge-PLACES : goal.returns-then-at-ge-PLACES
-returns-then-at-ge-PLACES c =
-    let a = c.args in
-    c.refuse.ensures
-    ∙ ap (refusing a.table) c.told.ensures
-    ∙ remove-nowhere a.table a.position c.first-at.ensures c.if-at-ge-PLACES.true
+pub returns-in-None : goal.returns-in-None
+returns-in-None c = c.refuse.ensures ∙ ap (refusing c.args.table) c.told.ensures ∙ remove-nowhere _ _ c.in-None.ensures.place
 
-pub returns : goal.returns
-returns c =
+pub returns-in-Some : goal.returns-in-Some
+returns-in-Some c =
     let a = c.args in
-    let n = c.first-at.result in
+    let n = c.in-Some.at in
     ap (λ (t : Totals). outcome t (success (get_or a.table.places n free).kept)) (c.lay.ensures ∙ ap (laid a.table n) c.nothing.ensures)
-    ∙ removed a.table a.position c.first-at.ensures c.if-at-ge-PLACES.false
+    ∙ removed a.table a.position c.in-Some.ensures.place

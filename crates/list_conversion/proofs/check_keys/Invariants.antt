@@ -1,5 +1,4 @@
 use mathlib.Core.Path.{◌≡◌}
-use Prim.Native.Nat.{◌-◌}
 use lib.ListN.{drop}
 use Rattle.cell_key_node.specs.ValueList.{up_to}
 use Rattle.list_conversion.specs.Entries.{offset_in, judged_of}
@@ -8,7 +7,3 @@ use Rattle.list_conversion.proofs.check_keys.Given as goal
 abbrev pub invariant-loop-i : goal.invariant-loop-i
 invariant-loop-i l =
     judged_of l.image l.base (drop l.i (up_to (offset_in l.list 4) l.count)) ≡ judged_of l.image l.base (up_to (offset_in l.list 4) l.count)
-
-abbrev pub decreases-loop-i : goal.decreases-loop-i
-decreases-loop-i l =
-    l.count - l.i

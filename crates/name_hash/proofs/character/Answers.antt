@@ -5,7 +5,3 @@ use Rattle.name_hash.proofs.character.Goals as goal
 pub returns-then-units : goal.returns-then-units
 returns-then-units c =
     simp c.if-units.true (rw c.from-rest.ensures.bytes at c.u16_at.ensures ∙ unit_at _ _)
-
-pub returns-else-units : goal.returns-else-units
-returns-else-units c =
-    simp c.if-units.false c.byte_at.ensures

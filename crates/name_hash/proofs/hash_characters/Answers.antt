@@ -1,4 +1,4 @@
-use Rattle.std.proofs.Common.{◌≡◌, arith, rules}
+use Rattle.std.proofs.Common.{rules}
 use Rattle.name_hash.specs.Characters.{upper_of, character_of}
 use Rattle.name_hash.specs.Hash.{hash_of}
 use Rattle.name_hash.proofs.Laws.{hash_more}
@@ -11,8 +11,4 @@ loop-i-init c =
 
 pub loop-i-preserved : goal.loop-i-preserved
 loop-i-preserved c =
-    let a = c.args in (search rules, cc (hash_more upper_of (character_of a.units a.name.now) c.loop-i.i))
-
-pub returns : goal.returns
-returns c =
-    let e : c.loop-i.i ≡ c.args.count = omega arith in cc
+    let a = c.args in cc (hash_more upper_of (character_of a.units a.name.now) c.loop-i.i)

@@ -1,12 +1,8 @@
-use Rattle.std.proofs.Common.{◌≡◌, ◌-◌, ◌≤◌}
+use Rattle.std.proofs.Common.{◌≡◌}
 use Rattle.name_hash.specs.Characters.{upper_of, character_of}
 use Rattle.name_hash.specs.Hash.{hash_of}
 use Rattle.name_hash.proofs.hash_characters.Given as goal
 
 abbrev pub invariant-loop-i : goal.invariant-loop-i
 invariant-loop-i l =
-    (l.i ≤ l.count) × (l.hash ≡ hash_of upper_of (character_of l.units l.name) l.i)
-
-abbrev pub decreases-loop-i : goal.decreases-loop-i
-decreases-loop-i l =
-    l.count - l.i
+    l.hash ≡ hash_of upper_of (character_of l.units l.name) l.i

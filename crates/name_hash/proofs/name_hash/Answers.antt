@@ -6,7 +6,7 @@ use Rattle.name_hash.proofs.name_hash.Goals as goal
 pub returns-then-flags-eq1 : goal.returns-then-flags-eq1
 unfolding name_hash_of
 returns-then-flags-eq1 c =
-    simp (eq-eqb _ _ c.if-flags-eq1.true) (ap success c.hash_characters-hash.ensures)
+    simp (eq-eqb _ _ c.if-flags-eq1.true) (ap success c.hash_characters.ensures)
 
 pub returns-then-name-eq1 : goal.returns-then-name-eq1
 unfolding name_hash_of
@@ -16,4 +16,4 @@ returns-then-name-eq1 c =
 pub returns : goal.returns
 unfolding name_hash_of
 returns c =
-    simp (ne_eqb _ _ c.if-flags-eq1.false, ne_eqb _ _ c.if-name-eq1.false) (ap success c.hash_characters-hash-2.ensures)
+    simp (ne_eqb _ _ c.if-flags-eq1.false, ne_eqb _ _ c.if-name-eq1.false) (ap success c.hash_characters-2.ensures)

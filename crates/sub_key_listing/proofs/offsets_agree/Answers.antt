@@ -1,3 +1,4 @@
+use mathlib.Core.Path.{◌∙◌}
 use Rattle.sub_key_listing.proofs.Right.{agree_none, agree_room, agree_some}
 use Rattle.sub_key_listing.proofs.offsets_agree.Goals as goal
 
@@ -5,10 +6,10 @@ pub returns-then-n-eq0 : goal.returns-then-n-eq0
 returns-then-n-eq0 c =
     agree_none c.args.image.now c.args.key c.args.n c.requires.counted c.args.listing.now c.if-n-eq0.true
 
-pub match_walk-end-requires : goal.match_walk-end-requires
-match_walk-end-requires c =
+pub take_walk-requires : goal.take_walk-requires
+take_walk-requires c =
     agree_room c.args.image.now c.args.key c.args.n c.requires.counted c.args.listing.now c.if-n-eq0.false c.requires.room
 
 pub returns : goal.returns
 returns c =
-    agree_some c.args.image.now c.args.key c.args.n c.requires.counted c.args.listing.now c.if-n-eq0.false c.match_walk-end.ensures
+    c.is_some.ensures ∙ agree_some c.args.image.now c.args.key c.args.n c.requires.counted c.args.listing.now c.if-n-eq0.false c.take_walk.ensures.1

@@ -1,11 +1,6 @@
-use Prim.Native.Nat.{◌-◌}
 use Rattle.sub_key_walk.proofs.Entries.{Counting}
 use Rattle.sub_key_walk.proofs.dropped_of.Given as goal
 
 abbrev pub invariant-loop-i : goal.invariant-loop-i
 invariant-loop-i l =
-    Counting l.image l.base l.size l.n l.pos l.at l.dropped l.i
-
-abbrev pub decreases-loop-i : goal.decreases-loop-i
-decreases-loop-i l =
-    l.n - l.i
+    Counting l.image l.base l.size l.n l.pos l.dropped l.i

@@ -12,8 +12,8 @@ loop-left-init c =
 pub fits-requires : goal.fits-requires
 fits-requires c =
     let a = c.args in
-    let e = c.smaller-k.ensures in
-    record { there = piece_there a.image.now a.base a.size a.n a.pos _ _ c.loop-left.invariant c.smaller-k.result (omega arith); sized = c.requires.sized }
+    let e = c.min-k.ensures in
+    record { there = piece_there a.image.now a.base a.size a.n a.pos _ _ c.loop-left.invariant c.min-k.result (omega arith); sized = c.requires.sized }
 
 pub count_dropped-requires : goal.count_dropped-requires
 count_dropped-requires c =
@@ -29,30 +29,30 @@ returns-then-not-fits c =
 pub overflow_mul-at : goal.overflow_mul-at
 overflow_mul-at c =
     let a = c.args in
-    let e = c.smaller-k.ensures in
-    let l = (piece_there a.image.now a.base a.size a.n a.pos _ _ c.loop-left.invariant c.smaller-k.result (omega arith)).inside in
+    let e = c.min-k.ensures in
+    let l = (piece_there a.image.now a.base a.size a.n a.pos _ _ c.loop-left.invariant c.min-k.result (omega arith)).inside in
     search rules
 
 pub overflow_add-at : goal.overflow_add-at
 overflow_add-at c =
     let a = c.args in
-    let e = c.smaller-k.ensures in
-    let l = (piece_there a.image.now a.base a.size a.n a.pos _ _ c.loop-left.invariant c.smaller-k.result (omega arith)).inside in
+    let e = c.min-k.ensures in
+    let l = (piece_there a.image.now a.base a.size a.n a.pos _ _ c.loop-left.invariant c.min-k.result (omega arith)).inside in
     search rules
 
 pub overflow_sub-left : goal.overflow_sub-left
 overflow_sub-left c =
-    let e = c.smaller-k.ensures in search rules
+    let e = c.min-k.ensures in search rules
 
 pub loop-left-smaller : goal.loop-left-smaller
 loop-left-smaller c =
-    let e = c.smaller-k.ensures in search rules
+    let e = c.min-k.ensures in search rules
 
 pub loop-left-preserved : goal.loop-left-preserved
 loop-left-preserved c =
     let a = c.args in
-    let e = c.smaller-k.ensures in
-    leaving_next a.image.now a.base a.size a.n a.pos _ _ c.loop-left.invariant c.smaller-k.result (omega arith) (c.fits.ensures (c.if-not-fits.false))
+    let e = c.min-k.ensures in
+    leaving_next a.image.now a.base a.size a.n a.pos _ _ c.loop-left.invariant c.min-k.result (omega arith) (c.fits.ensures (c.if-not-fits.false))
 
 pub count_dropped-requires-2 : goal.count_dropped-requires-2
 count_dropped-requires-2 c =

@@ -1,11 +1,7 @@
-use Prim.Native.Nat.{◌-◌}
+use Prim.Native.Nat.{◌+◌, ◌*◌}
 use Rattle.sub_key_walk.proofs.Entries.{Filling}
 use Rattle.sub_key_walk.proofs.fill_each.Given as goal
 
 abbrev pub invariant-loop-i : goal.invariant-loop-i
 invariant-loop-i l =
-    Filling l.image l.base l.size l.n l.pos l.initial.out l.place l.out l.at l.to l.i
-
-abbrev pub decreases-loop-i : goal.decreases-loop-i
-decreases-loop-i l =
-    l.n - l.i
+    Filling l.image l.base l.size l.n l.pos l.initial.out l.place l.out (l.pos + l.size * l.i) l.to l.i

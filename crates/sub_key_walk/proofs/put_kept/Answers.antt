@@ -12,13 +12,13 @@ use Rattle.sub_key_walk.proofs.put_kept.Goals as goal
 pub bounds-out-to : goal.bounds-out-to
 bounds-out-to c =
     let a = c.args in
-    let e : length (keep (a.v + a.base) []) ≡ 1 = ap length (keep_kept (a.v + a.base) (omega arith)) in
+    let e : length (keep (a.v + a.base) []) ≡ 1 = ap length (keep_kept (a.v + a.base) c.in-Some.ensures.0) in
     search rules
 
-pub returns-then-v-base : goal.returns-then-v-base
-returns-then-v-base c =
-    let a = c.args in put_kept (a.v + a.base) a.to a.out.now (omega arith)
+pub returns-in-Some : goal.returns-in-Some
+returns-in-Some c =
+    let a = c.args in rw (c.in-Some.ensures.1) (put_kept (a.v + a.base) a.to a.out.now c.in-Some.ensures.0)
 
-pub returns-else-v-base : goal.returns-else-v-base
-returns-else-v-base c =
-    let a = c.args in put_dropped (a.v + a.base) a.to a.out.now (omega arith)
+pub returns-in-None : goal.returns-in-None
+returns-in-None c =
+    let a = c.args in put_dropped (a.v + a.base) a.to a.out.now (omega (arith, c.in-None.ensures))

@@ -4,8 +4,8 @@ use native.Mathlib.Omega.{arith}
 use Rattle.words.proofs.Little.{little_2, byte_past}
 use Rattle.words.proofs.u16_at.Goals as goal
 
-pub returns-then-at-starts : goal.returns-then-at-starts
-returns-then-at-starts c =
+pub returns-then-at-saturating_sub : goal.returns-then-at-saturating_sub
+returns-then-at-saturating_sub c =
     let a = c.args in c.join2.ensures ∙ sym (little_2 a.s.now a.at)
 
 pub returns : goal.returns

@@ -3,8 +3,8 @@ use native.Mathlib.Omega.{arith}
 use Rattle.words.proofs.Little.{little_4, little_split, little-past}
 use Rattle.words.proofs.u32_at.Goals as goal
 
-pub returns-then-at-starts : goal.returns-then-at-starts
-returns-then-at-starts c =
+pub returns-then-at-saturating_sub : goal.returns-then-at-saturating_sub
+returns-then-at-saturating_sub c =
     let a = c.args in c.join4.ensures ∙ sym (little_4 a.s.now a.at)
 
 pub returns-then-at-s : goal.returns-then-at-s

@@ -4,8 +4,8 @@ use native.Mathlib.Omega.{arith}
 use Rattle.words.proofs.Little.{little_4, little_far_4, little_split, little-past}
 use Rattle.words.proofs.u64_at.Goals as goal
 
-pub returns-then-at-starts : goal.returns-then-at-starts
-returns-then-at-starts c =
+pub returns-then-at-saturating_sub : goal.returns-then-at-saturating_sub
+returns-then-at-saturating_sub c =
     let a = c.args in
     let low = c.join4-low.ensures ∙ sym (little_4 a.s.now a.at) in
     let high = c.join4-high.ensures ∙ sym (little_far_4 a.s.now a.at) in

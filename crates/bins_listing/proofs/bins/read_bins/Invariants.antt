@@ -1,5 +1,4 @@
-use mathlib.Core.Path.{◌≡◌}
-use lib.ListN.{length}
+use Rattle.std.proofs.Common.{◌≡◌, length}
 use Rattle.bins_listing.proofs.bins.read_bins.Given as goal
 
 abbrev pub invariant-loop-remaining : goal.invariant-loop-remaining

@@ -1,0 +1,92 @@
+// A case's buffer of bytes, of places or of 64-bit places: filled with a pattern before, and told by its sums and by the places that still
+// hold the pattern.
+ghost use Rattle.std.specs.Prelude.{◌≡◌, length};
+
+use super::lines;
+use console::say;
+use replay_case::{Number, Sums};
+
+// Zeros. At a length that is a parameter the check need not count them; the `ensures` is what lending the array as a slice needs.
+pub fn bytes_space<const N: usize>() -> [u8; N]
+    ensures { N ≡ length result }
+{
+    [0; N]
+}
+
+pub fn places_space<const N: usize>() -> [u32; N]
+    ensures { N ≡ length result }
+{
+    [0; N]
+}
+
+// What a place holds before: place i of the pattern holds i + 1 times a number, in the width of the places.
+pub trait Pattern: Number + PartialEq {
+    fn first() -> Self;
+
+    fn next(self) -> Self;
+}
+
+impl Pattern for u8 {
+    fn first() -> u8 {
+        177
+    }
+
+    fn next(self) -> u8 {
+        self.wrapping_add(177)
+    }
+}
+
+impl Pattern for u32 {
+    fn first() -> u32 {
+        2654435761
+    }
+
+    fn next(self) -> u32 {
+        self.wrapping_add(2654435761)
+    }
+}
+
+impl Pattern for u64 {
+    fn first() -> u64 {
+        2654435761
+    }
+
+    fn next(self) -> u64 {
+        self.wrapping_add(2654435761)
+    }
+}
+
+pub fn prefill<T: Pattern>(out: &mut [T]) {
+    let mut x = T::first();
+    for place in out.iter_mut() {
+        *place = x;
+        x = x.next();
+    }
+}
+
+// How many places from `from` on hold the pattern.
+pub fn untouched<T: Pattern>(out: &[T], from: usize) {
+    let mut x = T::first();
+    let mut count: usize = 0;
+    for (i, place) in out.iter().enumerate() {
+        if from <= i && *place == x {
+            count = count.wrapping_add(1);
+        }
+        x = x.next();
+    }
+    say!(" {count}");
+}
+
+// The sums of the places written, and the count of those untouched behind them.
+pub fn written<T: Pattern>(out: &[T], n: usize) {
+    if n <= out.len() {
+        lines::summed(Sums::of_row(&out[..n]));
+    }
+    untouched(out, n);
+}
+
+// The row of a whole buffer of bytes, and the count of the places untouched in it.
+pub fn told(out: &[u8]) {
+    lines::row(out);
+    untouched(out, 0);
+}

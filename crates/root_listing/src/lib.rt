@@ -1,0 +1,46 @@
+// The listing of a hive: base block, bins, root key and walk in turn, up to the first refusal. What can be read is decided in the
+// libraries; here stand the order of the steps and the form of the lines.
+#![tactic(auto)]
+
+use cell_key_node::KeyNode;
+use console::Stdout;
+use hive_console::lines;
+use hive_console::stop::Stop;
+use std::fmt::Write;
+use words::{Reason, Refusal};
+
+// Where the bins begin, and the most lists that the walk reads.
+pub const BASE: u32 = 4096;
+
+pub const BUDGET: u32 = 1024;
+
+// The root's record, at an offset behind the base.
+pub fn root_record(image: &[u8], offset: i32) -> Result<KeyNode, Refusal> {
+    if offset < 0 {
+        return Err(Refusal {
+            reason: Reason::Outside,
+            position: 0,
+        });
+    }
+    let position = offset as usize + BASE as usize;
+    cell_key_node::read_key_node(image, position, BASE)
+}
+
+fn list_keys(image: &[u8], root: KeyNode) -> Result<(), Stop> {
+    let mut out = [0u32; 4096];
+    let c = key_in_place::sub_keys_of(image, root, BUDGET, &mut out).map_err(|f| f.reason)?;
+    writeln!(
+        Stdout,
+        "keys {} {} {} {}",
+        c.kept, c.lists, c.entries, c.dropped,
+    )?;
+    lines::position_lines(&out, c.kept as usize)?;
+    Ok(())
+}
+
+pub fn list(image: &[u8]) -> Result<(), Stop> {
+    let block = base_block::read_base_block(image)?;
+    lines::base_line(block)?;
+    lines::bins_line(hive_bin::check_bins(image, BASE, block.hive_bins_data_size)?)?;
+    list_keys(image, root_record(image, block.root_cell_offset)?)
+}

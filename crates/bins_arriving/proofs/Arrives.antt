@@ -71,7 +71,7 @@ feed_grows (x ∷ xs) s = omega (arith, eat_grows s x, feed_grows xs (eat s x))
 same_numbered : (f g : Numbered) → numbered f ≡ numbered g → f ≡ g
 same_numbered f g e = λ i. record { number = (e i).number; position = (e i).position }
 
-arriving_injective : (a b : Result BinTotals Numbered) → arriving_paper a ≡ arriving_paper b → a ≡ b
+pub arriving_injective : (a b : Result BinTotals Numbered) → arriving_paper a ≡ arriving_paper b → a ≡ b
 arriving_injective = paper_injective (λ t u e. e) same_numbered
 
 totals-refused : {t : BinTotals} {f : Numbered} → ◌≡◌ {A = Result BinTotals Numbered} (Ok t) (Err f) → ⊥

@@ -49,14 +49,14 @@ module _ (s : List ℕ) (base size : ℕ) where
       on_part : answer_of (bins_in (take size (drop base s))) ≡ bins_paper r
       on_part = sym (e ∙ ap (λ (x : List ℕ). answer_of (bins_in x)) part)
 
-      of_totals : {t : BinTotals} → r ≡ Ok t → success t ≡ bins_of s base size
+      pub of_totals : {t : BinTotals} → r ≡ Ok t → success t ≡ bins_of s base size
       unfolding later
       of_totals h = sym (inside ∙ ap (later base) (on_part ∙ ap bins_paper h))
 
       abbrev moved : Refusal → Refusal
       moved f = record f { position = base + f.position }
 
-      of_refusal : {f : Refusal} → r ≡ Err f → refused (told (moved f)) ≡ bins_of s base size
+      pub of_refusal : {f : Refusal} → r ≡ Err f → refused (told (moved f)) ≡ bins_of s base size
       unfolding later
       of_refusal h = sym (inside ∙ ap (later base) (on_part ∙ ap bins_paper h))
 

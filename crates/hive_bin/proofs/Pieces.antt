@@ -190,7 +190,7 @@ module _ (b : List ℕ) (at left : ℕ) where
           ∙ ap (λ (m : ℕ). plus (success one_bin) (answer_of (row (cell_row b) (at + 32) (m - 32)))) bin_told.2
           ∙ ap (plus (success one_bin)) (sym cells)
 
-      bin_fails : {f : Refusal} → r ≡ Err f → answer_of ((bin_row b).piece at) ≡ refused (told f)
+      pub bin_fails : {f : Refusal} → r ≡ Err f → answer_of ((bin_row b).piece at) ≡ refused (told f)
       unfolding plus
       bin_fails e = bin_is ∙ ap (λ (a : Result BinTotals Refusal). plus (success one_bin) (bins_paper a)) e
 
@@ -201,7 +201,7 @@ module _ (b : List ℕ) (at left : ℕ) where
             let k = bin_told in
             rw one (record { pieces = omega arith; bytes = omega arith })
 
-        bin_adds_held : {v : BinTotals} → v ≡ together o u → answer_of ((bin_row b).piece at) ≡ success v
+        pub bin_adds_held : {v : BinTotals} → v ≡ together o u → answer_of ((bin_row b).piece at) ≡ success v
         unfolding plus
         bin_adds_held q =
             bin_is ∙ ap (λ (a : Result BinTotals Refusal). plus (success one_bin) (bins_paper a)) e

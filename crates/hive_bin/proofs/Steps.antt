@@ -1,5 +1,5 @@
 -- Laws of one step of a reader of cells, by what the code has read. Assumes nothing.
-use Prim.Native.Nat.{ℕ, ◌+◌, ◌-◌, ◌^◌, ◌≤◌, ◌<◌}
+use Prim.Native.Nat.{ℕ, ◌+◌, ◌-◌, ◌%◌, ◌^◌, ◌≤◌, ◌<◌}
 use mathlib.Core.Path.{◌≡◌, refl, sym, ap, subst, ◌∙◌}
 use mathlib.Core.List.{List}
 use mathlib.Core.Bool.{Bool, true, false, cond}
@@ -66,8 +66,12 @@ module _ (b : List ℕ) (bin over place : ℕ) {z : ℤ} (held : mag z < 2 ^ 31)
         let k = sized_some size in
         some_size (cell_row b) (cells_sound b) place (left_in bin over place) n (sym (cell_size_held b place held word (left_in bin over place)) ∙ k.0) k.1
 
-    pub cell_fits : place + n ≤ over
-    cell_fits = (left_fits bin over place read_cell.2 (sized_some size).1).1
+    pub cell_fits : (8 ≤ n) × (place + n ≤ over)
+    cell_fits =
+        let h = (sized_some size).1 in
+        let k = cell_facts (size_word b place) (left_in bin over place) read_cell.0 in
+        let m : n % 8 ≡ 0 = rw read_cell.1 at k.1 in
+        (omega arith, (left_fits bin over place read_cell.2 h).1)
 
     pub a_cell_in : {s : Spot} → s ≡ next_of bin over (place + n)
         → success (cell (record { place = place; size = read z }) s) ≡ cell_in b bin over place

@@ -241,6 +241,18 @@ fn at_end(bins: &[u8], spot: Spot) -> bool
     spot.place == spot.bin && spot.bin == bins.len()
 }
 
+// The size of the bin at any place, with the bytes behind it in the bins; none where no bin stands there. A place past the bins is told
+// apart by a test, and not by a difference that stops at 0: the header's words are then read with fewer tests at each step.
+#[tactic(auto, unfolding(crate::specs::Walk::bin_size, crate::specs::Walk::header_size, crate::specs::Walk::good_header))]
+fn bin_size_at(bins: &[u8], bin: usize) -> Option<usize>
+    ensures { result ≡ sized (bin_size bins.now bin (length bins.now - bin)) }
+{
+    if bins.len() < bin {
+        return None;
+    }
+    bin_size(bins, bin, bins.len() - bin)
+}
+
 // One step of a reader of cells, from any spot of any bytes: the cell there and the next spot, the end, or the fault that the check
 // of these bytes gives there. Places count from their start.
 pub fn step_at(bins: &[u8], spot: Spot) -> Result<Option<CellStep>, Refusal>
@@ -250,7 +262,7 @@ pub fn step_at(bins: &[u8], spot: Spot) -> Result<Option<CellStep>, Refusal>
     if at_end(bins, spot) {
         return Ok(None);
     }
-    let Some(size) = bin_size(bins, bin, bins.len().saturating_sub(bin)) else {
+    let Some(size) = bin_size_at(bins, bin) else {
         return Err(Refusal {
             reason: Reason::BadBin,
             position: bin,

@@ -11,7 +11,7 @@ use Rattle.sub_key_listing.specs.Steps.{matched, agreed, Ahead}
 use Rattle.sub_key_listing.specs.declared.Comparer.{Comparer}
 use Rattle.sub_key_listing.specs.declared.Writer.{Writer}
 
--- ---- held against the records of a listing, which stays: the state is the place of the next one
+-- ---- held against the records of a listing, which stays: the state is the place of the next one. Nothing is written
 
 module _ (b : List ℕ) where
   agreed-append : (ks ls : List ℕ) (place : Option ℕ) → agreed b (ks ++ ls) place ≡ agreed b ls (agreed b ks place)
@@ -39,31 +39,31 @@ module _ (b : List ℕ) where
   ahead_rest [] ls place r = r
   ahead_rest (k ∷ ks) ls place r = ahead_rest ks ls (matched b place k) (ahead_one k (ks ++ ls) place r)
 
-abbrev pub Holds : List ℕ → Comparer → Comparer → Type 0
-Holds ks x y = (y.listing ≡ x.listing) × (y.place ≡ agreed x.listing.now ks x.place)
+abbrev pub Holds : List ℕ → Comparer × List ℕ → Comparer × List ℕ → Type 0
+Holds ks x y = (y.0.listing ≡ x.0.listing) × (y.0.place ≡ agreed x.0.listing.now ks x.0.place)
 
-pub compared_none : (x : Comparer) → Holds [] x x
+pub compared_none : (x : Comparer × List ℕ) → Holds [] x x
 unfolding agreed
 compared_none x = (refl, refl)
 
-pub compared_more : (ks ls : List ℕ) (x y z : Comparer) → Holds ks x y → Holds ls y z → Holds (ks ++ ls) x z
+pub compared_more : (ks ls : List ℕ) (x y z : Comparer × List ℕ) → Holds ks x y → Holds ls y z → Holds (ks ++ ls) x z
 compared_more ks ls x y z e f = (
   f.0 ∙ e.0,
-  f.1 ∙ (λ i. agreed (e.0 i).now ls (e.1 i)) ∙ sym (agreed-append x.listing.now ks ls x.place),
+  f.1 ∙ (λ i. agreed (e.0 i).now ls (e.1 i)) ∙ sym (agreed-append x.0.listing.now ks ls x.0.place),
 )
 
-pub compared_front : (ks ls : List ℕ) (x : Comparer) → Ahead (ks ++ ls) x.place x.listing.now → Ahead ks x.place x.listing.now
-compared_front ks ls x r = ahead_front x.listing.now ks ls x.place r
+pub compared_front : (ks ls : List ℕ) (x : Comparer × List ℕ) → Ahead (ks ++ ls) x.0.place x.0.listing.now → Ahead ks x.0.place x.0.listing.now
+compared_front ks ls x r = ahead_front x.0.listing.now ks ls x.0.place r
 
-pub compared_rest : (ks ls : List ℕ) (x y : Comparer) → Ahead (ks ++ ls) x.place x.listing.now → Holds ks x y → Ahead ls y.place y.listing.now
+pub compared_rest : (ks ls : List ℕ) (x y : Comparer × List ℕ) → Ahead (ks ++ ls) x.0.place x.0.listing.now → Holds ks x y → Ahead ls y.0.place y.0.listing.now
 compared_rest ks ls x y r e =
     let P : List ℕ → Option ℕ → Type 0 = λ b o. Ahead ls o b in
-    let here : Ahead ls (agreed x.listing.now ks x.place) x.listing.now = ahead_rest x.listing.now ks ls x.place r in
-    subst (λ (o : Option ℕ). Ahead ls o y.listing.now) (sym e.1) (subst (λ (b : List ℕ). Ahead ls (agreed x.listing.now ks x.place) b) (λ i. (sym e.0 i).now) here)
+    let here : Ahead ls (agreed x.0.listing.now ks x.0.place) x.0.listing.now = ahead_rest x.0.listing.now ks ls x.0.place r in
+    subst (λ (o : Option ℕ). Ahead ls o y.0.listing.now) (sym e.1) (subst (λ (b : List ℕ). Ahead ls (agreed x.0.listing.now ks x.0.place) b) (λ i. (sym e.0 i).now) here)
 
-abbrev pub comparing : Use Comparer
+abbrev pub comparing : Use (Comparer × List ℕ)
 comparing = record {
-  Ready = λ ks x. Ahead ks x.place x.listing.now;
+  Ready = λ ks x. Ahead ks x.0.place x.0.listing.now;
   Goes = Holds;
   none = compared_none;
   more = compared_more;
@@ -71,7 +71,7 @@ comparing = record {
   rest = compared_rest;
 }
 
--- ---- written as records: the state is the buffer, and the place behind what is written
+-- ---- written as records: the state is the place behind what is written, and the buffer
 
 pub named_none : named [] ≡ []
 unfolding named
@@ -86,25 +86,25 @@ named-append (k ∷ ks) ls = ap (λ (r : List ℕ). plain NAMES k ++ r) (named-a
 abbrev rows : ℕ → Use (List ℕ × ℕ)
 rows places = writing places named named_none named-append
 
-abbrev pub Room : List ℕ → Writer → Type 0
-Room ks x = x.place + length (named ks) ≤ length x.out.now
+abbrev pub Room : List ℕ → Writer × List ℕ → Type 0
+Room ks x = x.0.place + length (named ks) ≤ length x.1
 
-abbrev pub Records : List ℕ → Writer → Writer → Type 0
-Records ks x y = (y.out.ghost_name ≡ x.out.ghost_name) × Filled (named ks) x.out.now x.place y.place y.out.now
+abbrev pub Records : List ℕ → Writer × List ℕ → Writer × List ℕ → Type 0
+Records ks x y = Filled (named ks) x.1 x.0.place y.0.place y.1
 
-pub recorded_none : (x : Writer) → Records [] x x
-recorded_none x = (refl, (rows 0).none (x.out.now, x.place))
+pub recorded_none : (x : Writer × List ℕ) → Records [] x x
+recorded_none x = (rows 0).none (x.1, x.0.place)
 
-pub recorded_more : (ks ls : List ℕ) (x y z : Writer) → Records ks x y → Records ls y z → Records (ks ++ ls) x z
-recorded_more ks ls x y z f g = (g.0 ∙ f.0, (rows 0).more ks ls (x.out.now, x.place) (y.out.now, y.place) (z.out.now, z.place) f.1 g.1)
+pub recorded_more : (ks ls : List ℕ) (x y z : Writer × List ℕ) → Records ks x y → Records ls y z → Records (ks ++ ls) x z
+recorded_more ks ls x y z = (rows 0).more ks ls (x.1, x.0.place) (y.1, y.0.place) (z.1, z.0.place)
 
-pub recorded_front : (ks ls : List ℕ) (x : Writer) → Room (ks ++ ls) x → Room ks x
-recorded_front ks ls x r = ((rows (length x.out.now)).front ks ls (x.out.now, x.place) (refl, r)).1
+pub recorded_front : (ks ls : List ℕ) (x : Writer × List ℕ) → Room (ks ++ ls) x → Room ks x
+recorded_front ks ls x r = ((rows (length x.1)).front ks ls (x.1, x.0.place) (refl, r)).1
 
-pub recorded_rest : (ks ls : List ℕ) (x y : Writer) → Room (ks ++ ls) x → Records ks x y → Room ls y
+pub recorded_rest : (ks ls : List ℕ) (x y : Writer × List ℕ) → Room (ks ++ ls) x → Records ks x y → Room ls y
 recorded_rest ks ls x y r f =
-    let p = (rows (length x.out.now)).rest ks ls (x.out.now, x.place) (y.out.now, y.place) (refl, r) f.1 in
-    subst (λ (n : ℕ). y.place + length (named ls) ≤ n) (sym p.0) p.1
+    let p = (rows (length x.1)).rest ks ls (x.1, x.0.place) (y.1, y.0.place) (refl, r) f in
+    subst (λ (n : ℕ). y.0.place + length (named ls) ≤ n) (sym p.0) p.1
 
-abbrev pub recording : Use Writer
+abbrev pub recording : Use (Writer × List ℕ)
 recording = record { Ready = Room; Goes = Records; none = recorded_none; more = recorded_more; front = recorded_front; rest = recorded_rest }

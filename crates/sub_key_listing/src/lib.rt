@@ -2,7 +2,7 @@
 // walk is measured first; then it goes once more through the lists, beside the listing's records. Nothing is copied in between.
 #![tactic(auto)]
 
-ghost use Rattle.std.specs.Prelude.{ℕ, ◌≡◌, [], ◌∷◌, true, ◌+◌, ◌*◌, ◌≤◌, length};
+ghost use Rattle.std.specs.Prelude.{ℕ, ◌≡◌, List, [], ◌∷◌, true, ◌+◌, ◌*◌, ◌≤◌, length};
 ghost use Rattle.words.specs.Paper.{by, number_of};
 ghost use Rattle.sub_key_list.specs.Leaves.{keep, leaf_kept};
 ghost use Rattle.sub_key_walk.specs.Trace.{trace, ordinary, kept_of};
@@ -86,7 +86,7 @@ fn begins_at(listing: &[u8], at: usize, size: u32, kind: Kind) -> bool
     requires { at + 6 ≤ length listing.now }
     ensures { result ≡ begins listing.now at size (number_of_kind kind) }
 {
-    words::u32_at(listing, at) == size && words::u16_at(listing, at + 4) == kind.number()
+    (words::u32_at(listing, at) == size) & (words::u16_at(listing, at + 4) == kind.number())
 }
 
 // Whether `n` records of one offset stand behind an opening. (`n` is part of what is judged, as in the definition `framed`: no length of a
@@ -139,59 +139,79 @@ fn is_listing(listing: &[u8]) -> bool
 
 // ---- the offsets of a walk, taken one after another
 
-// What is done with the offsets that a walk keeps: they lead from one state to another, where there is room for them.
+// What is done with the offsets that a walk keeps: they lead from one state to another, where there is room for them. What is written goes to
+// `out`. (A state is handed on by value: behind a reference it would go through memory at each entry.)
 trait Takes {
-    ghost taking: { Use Self };
+    ghost taking: { Use (Self × List ℕ) };
 
-    fn take(&mut self, k: u32)
-        requires { taking.Ready (k ∷ []) self.old }
-        ensures { taking.Goes (k ∷ []) self.old self.new };
+    fn take(self, out: &mut [u8], k: u32) -> Self
+        requires { taking.Ready (k ∷ []) (self, out.old) }
+        ensures { taking.Goes (k ∷ []) (self, out.old) (result, out.new) };
 }
 
 // Takes an entry, if it is kept.
-fn take_kept<T: Takes>(to: &mut T, v: u32, base: u32)
-    requires { T.taking.Ready (keep (v + base) []) to.old }
-    ensures { T.taking.Goes (keep (v + base) []) to.old to.new }
+fn take_kept<T: Takes>(from: T, out: &mut [u8], v: u32, base: u32) -> T
+    requires { T.taking.Ready (keep (v + base) []) (from, out.old) }
+    ensures { T.taking.Goes (keep (v + base) []) (from, out.old) (result, out.new) }
 {
-    if let Some(k) = v.checked_add(base) {
-        to.take(k);
+    match v.checked_add(base) {
+        Some(k) => from.take(out, k),
+        None => from,
     }
 }
 
 // Takes what is kept of the entries of the leaf list that stands at a position.
-fn take_leaf<T: Takes>(image: &[u8], base: u32, position: usize, leaf: LeafList, to: &mut T)
+fn take_leaf<T: Takes>(
+    image: &[u8],
+    base: u32,
+    position: usize,
+    leaf: LeafList,
+    from: T,
+    out: &mut [u8],
+) -> T
     requires stands { Stands image.now position leaf }
-    requires ready { T.taking.Ready (leaf_kept image.now base leaf.entry_size leaf.count (position + 8)) to.old }
-    ensures { T.taking.Goes (leaf_kept image.now base leaf.entry_size leaf.count (position + 8)) to.old to.new }
+    requires ready { T.taking.Ready (leaf_kept image.now base leaf.entry_size leaf.count (position + 8)) (from, out.old) }
+    ensures { T.taking.Goes (leaf_kept image.now base leaf.entry_size leaf.count (position + 8)) (from, out.old) (result, out.new) }
 {
     let size = leaf.entry_size as usize;
+    let mut to = from;
     let mut at = position + 8;
     for i in 0..leaf.count {
         let v = words::u32_at(image, at);
-        take_kept(to, v, base);
+        to = take_kept(to, out, v, base);
         at += size;
     }
+    to
 }
 
 // Takes all that the walk of the list at an offset keeps, with so many levels left.
-fn take_walk<T: Takes>(image: &[u8], base: u32, left: u32, offset: u32, to: &mut T)
-    requires { T.taking.Ready (kept_of (trace (ordinary image.now) left image.now base offset)) to.old }
-    ensures { T.taking.Goes (kept_of (trace (ordinary image.now) left image.now base offset)) to.old to.new }
+fn take_walk<T: Takes>(
+    image: &[u8],
+    base: u32,
+    left: u32,
+    offset: u32,
+    from: T,
+    out: &mut [u8],
+) -> T
+    requires { T.taking.Ready (kept_of (trace (ordinary image.now) left image.now base offset)) (from, out.old) }
+    ensures { T.taking.Goes (kept_of (trace (ordinary image.now) left image.now base offset)) (from, out.old) (result, out.new) }
 {
     if left == 0 {
-        return;
+        return from;
     }
     let position = (offset as usize) + (base as usize);
     match sub_key_list::read_list(image, position) {
-        Err(_) => {}
-        Ok(SubKeyList::Leaf(leaf)) => take_leaf(image, base, position, leaf, to),
+        Err(_) => from,
+        Ok(SubKeyList::Leaf(leaf)) => take_leaf(image, base, position, leaf, from, out),
         Ok(SubKeyList::Index(index)) => {
+            let mut to = from;
             let mut pos = position + 8;
             for i in 0..index.count {
                 let next = words::u32_at(image, pos);
-                take_walk(image, base, left - 1, next, to);
+                to = take_walk(image, base, left - 1, next, to, out);
                 pos += 4;
             }
+            to
         }
     }
 }
@@ -210,11 +230,12 @@ impl Takes for Comparer<'_> {
 
     ghost taking = { comparing };
 
-    fn take(&mut self, k: u32) {
-        self.place = match self.place {
+    fn take(self, out: &mut [u8], k: u32) -> Self {
+        let place = match self.place {
             Some(at) if words::u32_at(self.listing, at + 6) == k => Some(at + RECORD),
             _ => None,
         };
+        Comparer { place, ..self }
     }
 }
 
@@ -242,20 +263,21 @@ fn put_opening(out: &mut [u8], base: u32, position: u64)
 }
 
 // The records of a listing that is written: where the next one goes.
-#[derive(Drop)]
-struct Writer<'a> {
-    out: &'a mut [u8],
+#[derive(Clone, Copy)]
+struct Writer {
     place: usize,
 }
 
-impl Takes for Writer<'_> {
+impl Takes for Writer {
     ghost use Rattle.sub_key_listing.specs.Uses.{recording};
 
     ghost taking = { recording };
 
-    fn take(&mut self, k: u32) {
-        put_plain(self.out, self.place, Kind::Names, k);
-        self.place += RECORD;
+    fn take(self, out: &mut [u8], k: u32) -> Self {
+        put_plain(out, self.place, Kind::Names, k);
+        Writer {
+            place: self.place + RECORD,
+        }
     }
 }
 
@@ -277,13 +299,14 @@ fn offsets_agree(image: &[u8], key: KeyNode, n: usize, listing: &[u8]) -> bool
     if n == 0 {
         return true;
     }
-    let mut comparer = Comparer {
+    let comparer = Comparer {
         listing,
         place: Some(OPENING),
     };
     let list = key.sub_keys_list_offset_relative;
-    take_walk(image, key.base, sub_key_walk::LEVELS, list, &mut comparer);
-    comparer.place.is_some()
+    let levels = sub_key_walk::LEVELS;
+    let compared = take_walk(image, key.base, levels, list, comparer, &mut []);
+    compared.place.is_some()
 }
 
 // Whether bytes that are a listing are the one of a key record, whose walk keeps so many offsets.
@@ -342,13 +365,10 @@ fn put_offsets(image: &[u8], key: KeyNode, kept: u32, out: &mut [u8]) -> usize
     if kept == 0 {
         return OPENING;
     }
-    let mut writer = Writer {
-        out,
-        place: OPENING,
-    };
+    let writer = Writer { place: OPENING };
     let list = key.sub_keys_list_offset_relative;
-    take_walk(image, key.base, sub_key_walk::LEVELS, list, &mut writer);
-    writer.place
+    let levels = sub_key_walk::LEVELS;
+    take_walk(image, key.base, levels, list, writer, out).place
 }
 
 // The listing of a key record, whose walk keeps so many offsets, from the first byte on.

@@ -9,7 +9,7 @@ use Rattle.sub_key_listing.proofs.+take_walk.Goals as goal
 pub returns-then-left-eq0 : goal.returns-then-left-eq0
 returns-then-left-eq0 g t c =
     let a = c.args in
-    goes_nowhere g.T.Takes.taking a.to.now (kept_deep (ordinary a.image.now) a.left a.image.now a.base a.offset c.if-left-eq0.true)
+    goes_nowhere g.T.Takes.taking (a.from, a.out.now) (kept_deep (ordinary a.image.now) a.left a.image.now a.base a.offset c.if-left-eq0.true)
 
 pub take_leaf-requires-clause-ready : goal.take_leaf-requires-clause-ready
 take_leaf-requires-clause-ready g t c =
@@ -22,8 +22,8 @@ loop-i-init g t c =
     spreading_start _ _ _ _ _ _
     (ready_as g.T.Takes.taking (kept_index (ordinary a.image.now) a.left a.image.now a.base a.offset c.if-left-eq0.false (sym (read_as c.in-Ok-Index.field-0-is c.in-Ok-Index.ensures))) c.requires)
 
-pub take_walk-requires : goal.take_walk-requires
-take_walk-requires g t c =
+pub take_walk-to-requires : goal.take_walk-to-requires
+take_walk-to-requires g t c =
     λ κs o. (omega (arith, c.if-left-eq0.false), (o, spreading_ready _ _ _ _ _ _ _ _ _ c.loop-i.invariant c.loop-i-test.true c.u32_at-next.ensures))
 
 pub overflow_add-pos-in-loop-i : goal.overflow_add-pos-in-loop-i
@@ -32,12 +32,12 @@ overflow_add-pos-in-loop-i g t c =
 
 pub loop-i-preserved : goal.loop-i-preserved
 loop-i-preserved g t c =
-    spreading_step _ _ _ _ _ _ _ _ _ c.loop-i.invariant c.loop-i-test.true c.u32_at-next.ensures c.take_walk.ensures
+    spreading_step _ _ _ _ _ _ _ _ _ c.loop-i.invariant c.loop-i-test.true c.u32_at-next.ensures c.take_walk-to.ensures
 
 pub returns-in-Err : goal.returns-in-Err
 returns-in-Err g t c =
     let a = c.args in
-    goes_nowhere g.T.Takes.taking a.to.now (kept_bad (ordinary a.image.now) a.left a.image.now a.base a.offset c.if-left-eq0.false _ (sym c.in-Err.ensures))
+    goes_nowhere g.T.Takes.taking (a.from, a.out.now) (kept_bad (ordinary a.image.now) a.left a.image.now a.base a.offset c.if-left-eq0.false _ (sym c.in-Err.ensures))
 
 pub returns-in-Ok-Leaf : goal.returns-in-Ok-Leaf
 returns-in-Ok-Leaf g t c =

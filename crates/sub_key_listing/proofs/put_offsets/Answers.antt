@@ -1,4 +1,4 @@
-use borrow.Author.Rules.{rules}
+use mathlib.Core.Path.{refl}
 use Rattle.sub_key_listing.proofs.Right.{put-none, put_room, put_some}
 use Rattle.sub_key_listing.proofs.put_offsets.Goals as goal
 
@@ -12,4 +12,4 @@ take_walk-requires c =
 
 pub returns : goal.returns
 returns c =
-    put_some c.args.image.now c.args.key c.args.kept c.requires.counted c.args.out.now c.if-kept-eq0.false c.take_walk.ensures.1 (search rules)
+    put_some c.args.image.now c.args.key c.args.kept c.requires.counted c.args.out.now c.if-kept-eq0.false c.take_walk.ensures refl

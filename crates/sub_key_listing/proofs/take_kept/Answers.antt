@@ -16,7 +16,7 @@ returns-in-Some g c =
     let e = c.in-Some.ensures in
     goes_as g.T.Takes.taking (keep_kept (c.args.v + c.args.base) e.0 ∙ ap (λ (k : ℕ). k ∷ []) (sym e.1)) c.take.ensures
 
-pub returns-in_default : goal.returns-in_default
-returns-in_default g c =
-    let e = c.in_default.ensures in
-    goes_nowhere g.T.Takes.taking c.args.to.now (keep_dropped (c.args.v + c.args.base) (omega (arith, e)))
+pub returns-in-None : goal.returns-in-None
+returns-in-None g c =
+    let e = c.in-None.ensures in
+    goes_nowhere g.T.Takes.taking (c.args.from, c.args.out.now) (keep_dropped (c.args.v + c.args.base) (omega (arith, e)))

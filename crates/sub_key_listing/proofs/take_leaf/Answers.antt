@@ -15,8 +15,8 @@ pub loop-i-init : goal.loop-i-init
 loop-i-init g c =
     passing_start _ _ _ _ _ _ _ (standing_entries (leaf_stands _ _ _ _ _ c.requires.stands)) c.requires.ready
 
-pub take_kept-requires : goal.take_kept-requires
-take_kept-requires g c =
+pub take_kept-to-requires : goal.take_kept-to-requires
+take_kept-to-requires g c =
     passing_ready _ _ _ _ _ _ _ _ _ _ c.loop-i.invariant c.loop-i-test.true (leaf_stands _ _ _ _ _ c.requires.stands).word c.u32_at-v.ensures
 
 pub overflow_add-at-in-loop-i : goal.overflow_add-at-in-loop-i
@@ -26,7 +26,7 @@ overflow_add-at-in-loop-i g c =
 
 pub loop-i-preserved : goal.loop-i-preserved
 loop-i-preserved g c =
-    passing_step _ _ _ _ _ _ _ _ _ _ c.loop-i.invariant c.loop-i-test.true (leaf_stands _ _ _ _ _ c.requires.stands).word c.u32_at-v.ensures c.take_kept.ensures
+    passing_step _ _ _ _ _ _ _ _ _ _ c.loop-i.invariant c.loop-i-test.true (leaf_stands _ _ _ _ _ c.requires.stands).word c.u32_at-v.ensures c.take_kept-to.ensures
 
 pub returns : goal.returns
 returns g c =

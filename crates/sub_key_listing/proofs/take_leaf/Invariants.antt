@@ -4,4 +4,4 @@ use Rattle.sub_key_listing.proofs.take_leaf.Given as goal
 
 abbrev pub invariant-loop-i : goal.invariant-loop-i
 invariant-loop-i g l =
-    Passing g.T.Takes.taking l.image l.base l.size l.i-end (l.position + 8) l.initial.to l.to l.at l.i
+    Passing g.T.Takes.taking l.image l.base l.size l.i-end (l.position + 8) (l.initial.to, l.initial.out) (l.to, l.out) l.at l.i

@@ -8,8 +8,8 @@ returns c =
     let a = c.args in (
       refl,
       elim c.match-self.branch [
-        | in-Some w ↦ agreed_next a.self.now.listing.now a.k w.in-Some.is (sym w.u32_at.ensures ∙ w.if-u32_at-k.true) w.self-is
-        | in_default-2 w ↦ agreed_other a.self.now.listing.now a.k w.in-Some.is (λ e. w.if-u32_at-k.false (w.u32_at.ensures ∙ e)) w.self-is
-        | in_default w ↦ agreed_none a.self.now.listing.now a.k w.in_default.is w.self-is
+        | in-Some w ↦ agreed_next a.self.listing.now a.k w.in-Some.is (sym w.u32_at.ensures ∙ w.if-u32_at-k.true) w.place-is
+        | in_default-2 w ↦ agreed_other a.self.listing.now a.k w.in-Some.is (λ e. w.if-u32_at-k.false (w.u32_at.ensures ∙ e)) w.place-is
+        | in_default w ↦ agreed_none a.self.listing.now a.k w.in_default.is w.place-is
       ],
     )

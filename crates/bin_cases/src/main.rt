@@ -193,7 +193,9 @@ fn set(image: &mut [u8], base: u32, words: &[(u32, i32)]) {
     }
 }
 
-// The two bins with words changed, in an image of so many bytes.
+// The two bins with words changed, in an image of so many bytes. (In a frame of its own, as the example below: else both images would be in
+// that of `main`.)
+#[inline(never)]
 fn changed(label: &[u8], changes: &[(u32, i32)], length: usize, base: u32, size: u32) {
     let mut image = [0u8; 16384];
     set(&mut image, base, &TWO_BINS);
@@ -201,10 +203,16 @@ fn changed(label: &[u8], changes: &[(u32, i32)], length: usize, base: u32, size:
     report(label, words::part(&image, 0, length), base, size);
 }
 
-fn main() {
+// The example of document 01, in an image of its own.
+#[inline(never)]
+fn example() {
     let mut image = [0u8; 8192];
     set(&mut image, 4096, &EXAMPLE);
     report(b"the example", &image, 4096, 4096);
+}
+
+fn main() {
+    example();
     for (label, length, base, size) in LENGTHS {
         changed(label, &[], length, base, size);
     }

@@ -4,6 +4,7 @@
 // Where the input is cut short inside the bins, the listing of document 01 refuses by 8 before it looks at a bin. Here the bins are judged
 // as they come, as order 6 has it: a bin or cell at fault before the cut is refused by 10 or 11, and 8 is given where none is.
 use bins_arriving::BinsSoFar;
+use console::Stdout;
 use console::input::read_input;
 use hive_console::lines;
 use hive_console::stop::Stop;
@@ -34,13 +35,13 @@ fn read_bins<R: Read>(input: &mut R, page: &mut [u8], size: u32) -> Result<BinsS
 
 // Lists the bins of what an input delivers. The lines are printed when the bins are read, so that nothing is printed of an input that
 // cannot be read.
-pub fn list<R: Read>(input: &mut R) -> Result<(), Stop> {
+pub fn list<R: Read>(input: &mut R, out: &mut Stdout) -> Result<(), Stop> {
     let mut page = io::buffer();
     let n = read_input(input, &mut page)?;
     let block = base_block::read_base_block(&page[..n])?;
     let state = read_bins(input, &mut page, block.hive_bins_data_size)?;
-    lines::base_line(block)?;
+    lines::base_line(out, block)?;
     let totals = bins_arriving::finish(state).map_err(|refusal| Stop::Refused(refusal.number))?;
-    lines::bins_line(totals)?;
+    lines::bins_line(out, totals)?;
     Ok(())
 }

@@ -3,8 +3,11 @@
 
 mod bins;
 
+use console::Stdout;
 use hive_console::stop;
 
 fn main(rt: HostRuntime) {
-    stop::told(bins::list(&mut rt.stdin()));
+    let mut out = Stdout::new();
+    let outcome = bins::list(&mut rt.stdin(), &mut out);
+    stop::told(outcome, out);
 }

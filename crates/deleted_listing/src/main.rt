@@ -3,8 +3,9 @@
 
 mod deleted;
 
+use deleted::Deleted;
 use hive_console::input;
 
 fn main(rt: HostRuntime) {
-    input::list_input(&mut rt.stdin(), deleted::list);
+    input::list_input(&mut rt.stdin(), &Deleted);
 }

@@ -5,9 +5,9 @@ use hive_bin::BinTotals;
 use std::fmt;
 use std::fmt::{Display, Write};
 
-pub fn base_line(b: BaseBlock) -> fmt::Result {
+pub fn base_line(out: &mut Stdout, b: BaseBlock) -> fmt::Result {
     writeln!(
-        Stdout,
+        out,
         "base {} {} {} {} {} {} {} {:08x} {:08x}",
         b.primary_sequence_number,
         b.secondary_sequence_number,
@@ -21,18 +21,18 @@ pub fn base_line(b: BaseBlock) -> fmt::Result {
     )
 }
 
-pub fn bins_line(t: BinTotals) -> fmt::Result {
+pub fn bins_line(out: &mut Stdout, t: BinTotals) -> fmt::Result {
     writeln!(
-        Stdout,
+        out,
         "bins {} {} {} {} {}",
         t.bins, t.allocated_cells, t.free_cells, t.allocated_bytes, t.free_bytes,
     )
 }
 
 // The first `n` positions of a buffer, one a line.
-pub fn position_lines<T: Display>(positions: &[T], n: usize) -> fmt::Result {
+pub fn position_lines<T: Display>(out: &mut Stdout, positions: &[T], n: usize) -> fmt::Result {
     for position in positions.iter().take(n) {
-        writeln!(Stdout, "{position}")?;
+        writeln!(out, "{position}")?;
     }
     Ok(())
 }

@@ -2,7 +2,8 @@
 #![tactic(auto)]
 
 use hive_console::input;
+use root_listing::Root;
 
 fn main(rt: HostRuntime) {
-    input::list_input(&mut rt.stdin(), root_listing::list);
+    input::list_input(&mut rt.stdin(), &Root);
 }

@@ -1,19 +1,17 @@
 // The listing of the hives in data/, one after another, each under its label.
 #![tactic(auto)]
 
-use console::Stdout;
+use console::say;
 use hive_console::input;
-use std::fmt::Write;
+use root_listing::Root;
 use std::fs::File;
 use std::rt::Files;
 
 fn case<R: Files>(rt: &R, label: &str) {
-    let _ = writeln!(Stdout, "{label}");
+    say!("{label}\n");
     match File::open(rt, label) {
-        Ok(mut file) => input::list_input(&mut file, root_listing::list),
-        Err(_) => {
-            let _ = writeln!(Stdout, "no such hive");
-        }
+        Ok(mut file) => input::list_input(&mut file, &Root),
+        Err(_) => say!("no such hive\n"),
     }
 }
 

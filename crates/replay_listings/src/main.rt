@@ -5,8 +5,9 @@
 
 mod answers;
 
+use answers::Program;
 use replay_stream::stream;
 
 fn main() {
-    stream::replay(answers::answer);
+    stream::replay(&Program);
 }

@@ -8,6 +8,7 @@ use replay_stream::lines::{refused, room_refused};
 use replay_stream::records::{
     as_signed, big_data, block_parts, file_format, file_type, key_fields, value_fields,
 };
+use replay_stream::stream::Answers;
 use replay_stream::values::{lookup_line, values_line};
 use replay_stream::walks::joined;
 use replay_stream::{buffers, conversion, lines, listings, parts, place, totals, values, walks};
@@ -275,33 +276,38 @@ fn with_room(tag: u8, case: Case, image: &[u8], out: &mut [u32]) {
     }
 }
 
-pub fn answer(tag: u8, case: Case, image: &[u8], name: &[u8], out: &mut [u32]) {
-    match tag {
-        1 => checksum(image),
-        2 => block(image),
-        3 => big_data(image),
-        4 | 13 => with_room(tag, case, image, out),
-        5 | 11 | 14 | 16 | 17 | 20 | 29..=34 => walks::answer(tag, case, image, name, out),
-        6 => key(image, case.a as usize, case.c),
-        7 => value(image, case.a as usize),
-        8 => lookup(image, case, name),
-        9 => hash((case.a % 65536) as u16, image),
-        10 => parts::bins_line(hive_bin::check_bins(image, case.a, case.b)),
-        12 => words_at(image, case.a as usize),
-        15 => lookup_of(image, case, name),
-        18 => cell_line(cell::cell_at(image, case.a as usize, case.b as usize)),
-        19 => put(case),
-        21 | 22 => with_bytes(tag, case, image),
-        23 => step_line(cell_reader::tell(image, spot_of(case))),
-        24 => with_wide(case, image),
-        25 => step_line(hive_bin::step_at(image, spot_of(case))),
-        26 => parts::row_of_parts(case, image, name),
-        27 => parts::one_part(case, image, name),
-        28 => totals::row_of_calls(image, name),
-        35..=37 => conversion::answer(tag, case, image, name),
-        38 => place::with_record(case, image, name, out),
-        39 => place::record_place(case, image),
-        40..=42 => listings::answer(tag, case, image, name),
-        _ => say!(" none"),
+#[derive(Clone, Copy)]
+pub struct Program;
+
+impl Answers for Program {
+    fn answer(&self, tag: u8, case: Case, image: &[u8], name: &[u8], out: &mut [u32]) {
+        match tag {
+            1 => checksum(image),
+            2 => block(image),
+            3 => big_data(image),
+            4 | 13 => with_room(tag, case, image, out),
+            5 | 11 | 14 | 16 | 17 | 20 | 29..=34 => walks::answer(tag, case, image, name, out),
+            6 => key(image, case.a as usize, case.c),
+            7 => value(image, case.a as usize),
+            8 => lookup(image, case, name),
+            9 => hash((case.a % 65536) as u16, image),
+            10 => parts::bins_line(hive_bin::check_bins(image, case.a, case.b)),
+            12 => words_at(image, case.a as usize),
+            15 => lookup_of(image, case, name),
+            18 => cell_line(cell::cell_at(image, case.a as usize, case.b as usize)),
+            19 => put(case),
+            21 | 22 => with_bytes(tag, case, image),
+            23 => step_line(cell_reader::tell(image, spot_of(case))),
+            24 => with_wide(case, image),
+            25 => step_line(hive_bin::step_at(image, spot_of(case))),
+            26 => parts::row_of_parts(case, image, name),
+            27 => parts::one_part(case, image, name),
+            28 => totals::row_of_calls(image, name),
+            35..=37 => conversion::answer(tag, case, image, name),
+            38 => place::with_record(case, image, name, out),
+            39 => place::record_place(case, image),
+            40..=42 => listings::answer(tag, case, image, name),
+            _ => say!(" none"),
+        }
     }
 }

@@ -6,6 +6,7 @@ use replay_stream::lines;
 use replay_stream::records::{
     as_signed, big_data, block_parts, file_format, file_type, key_fields, value_fields,
 };
+use replay_stream::stream::Answers;
 use sub_key_list::SubKeyList;
 use words::Reason;
 
@@ -130,16 +131,21 @@ fn with_room(tag: u8, case: Case, image: &[u8], out: &mut [u32], room: u32) {
 }
 
 // The name is for a lookup, which the Rust has only after its own decoding of names.
-pub fn answer(tag: u8, case: Case, image: &[u8], _name: &[u8], out: &mut [u32]) {
-    match tag {
-        1 => checksum(image),
-        2 => block(image),
-        3 => big_data(image),
-        4 => with_room(tag, case, image, out, case.d),
-        5 => with_room(tag, case, image, out, case.e),
-        6 => key(image, case.a as usize, case.c),
-        7 => value(image, case.a as usize),
-        11 => list(image, case.a as usize),
-        _ => say!(" none"),
+#[derive(Clone, Copy)]
+pub struct Program;
+
+impl Answers for Program {
+    fn answer(&self, tag: u8, case: Case, image: &[u8], _name: &[u8], out: &mut [u32]) {
+        match tag {
+            1 => checksum(image),
+            2 => block(image),
+            3 => big_data(image),
+            4 => with_room(tag, case, image, out, case.d),
+            5 => with_room(tag, case, image, out, case.e),
+            6 => key(image, case.a as usize, case.c),
+            7 => value(image, case.a as usize),
+            11 => list(image, case.a as usize),
+            _ => say!(" none"),
+        }
     }
 }

@@ -1,32 +1,40 @@
 // A case's buffer of bytes, of places or of 64-bit places: filled with a pattern before, and told by its sums and by the places that still
 // hold the pattern.
-ghost use Rattle.std.specs.Prelude.{◌≡◌, length};
+ghost use Rattle.std.specs.Prelude.{◌≡◌, ℕ, ◌+◌, ◌*◌, ◌%◌, ◌^◌, ◌<◌, length, slice_get, slice_index, EachIndex};
 
 use super::lines;
 use console::say;
 use replay_case::{Number, Sums};
 
-// Zeros. At a length that is a parameter the check need not count them; the `ensures` is what lending the array as a slice needs.
+// Zeros. At a length that is a parameter the check need not count them; `whole` is what lending the array as a slice needs.
 pub fn bytes_space<const N: usize>() -> [u8; N]
-    ensures { N ≡ length result }
+    ensures whole { N ≡ length result }
+    ensures zeros { EachIndex result (λ i. slice_index result i ≡ 0) }
 {
-    [0; N]
+    [0u8; N]
 }
 
 pub fn places_space<const N: usize>() -> [u32; N]
-    ensures { N ≡ length result }
+    ensures whole { N ≡ length result }
+    ensures zeros { EachIndex result (λ i. slice_index result i ≡ 0) }
 {
-    [0; N]
+    [0u32; N]
 }
 
 // What a place holds before: place i of the pattern holds i + 1 times a number, in the width of the places.
 pub trait Pattern: Number + PartialEq {
-    fn first() -> Self;
+    ghost pattern: { ℕ → Self };
 
-    fn next(self) -> Self;
+    fn first() -> Self
+        ensures { result ≡ pattern 0 };
+
+    fn next(self) -> Self
+        ensures { (i : ℕ) → self ≡ pattern i → result ≡ pattern (i + 1) };
 }
 
 impl Pattern for u8 {
+    ghost pattern = { λ i. (i + 1) * 177 % 2 ^ 8 };
+
     fn first() -> u8 {
         177
     }
@@ -37,6 +45,8 @@ impl Pattern for u8 {
 }
 
 impl Pattern for u32 {
+    ghost pattern = { λ i. (i + 1) * 2654435761 % 2 ^ 32 };
+
     fn first() -> u32 {
         2654435761
     }
@@ -47,6 +57,8 @@ impl Pattern for u32 {
 }
 
 impl Pattern for u64 {
+    ghost pattern = { λ i. (i + 1) * 2654435761 % 2 ^ 64 };
+
     fn first() -> u64 {
         2654435761
     }
@@ -56,7 +68,9 @@ impl Pattern for u64 {
     }
 }
 
-pub fn prefill<T: Pattern>(out: &mut [T]) {
+pub fn prefill<T: Pattern>(out: &mut [T])
+    ensures { (i : ℕ) → i < length out.new → slice_get out.new i ≡ Some (T.pattern i) }
+{
     let mut x = T::first();
     for place in out.iter_mut() {
         *place = x;

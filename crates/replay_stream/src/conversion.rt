@@ -53,6 +53,8 @@ fn one_step(kind: As, list: &[u8], position: usize, image: &[u8], case: Case, ro
     let _ = step(kind, list, position, image, case.c, &mut room[..n]);
 }
 
+// Its buffer, like that of the two steps, is in a frame of its own: else all of them would be in that of `answer`.
+#[inline(never)]
 fn one_way(kind: As, list: &[u8], position: usize, image: &[u8], case: Case) {
     let mut room = buffers::bytes_space::<524288>();
     one_step(kind, list, position, image, case, &mut room);
@@ -77,6 +79,7 @@ fn two_steps(kind: As, position: usize, image: &[u8], case: Case, room: &mut [u8
     }
 }
 
+#[inline(never)]
 fn there_and_back(kind: As, position: usize, image: &[u8], case: Case) {
     let mut room = buffers::bytes_space::<524288>();
     two_steps(kind, position, image, case, &mut room);

@@ -44,14 +44,14 @@ pub fn summed(sums: Sums) {
     say!(" {} {}", sums.plain, sums.running);
 }
 
-// Two hex digits for each byte, `-` for none.
+// Two hex digits for each byte, `-` for none. (Both in one write: `{byte:02x}` writes the 0 of a byte below 16 by itself.)
 pub fn hex(bytes: &[u8]) {
     say!(" ");
     if bytes.is_empty() {
         say!("-");
     }
     for byte in bytes {
-        say!("{byte:02x}");
+        io::print_hex(1, *byte as u64, 2);
     }
 }
 

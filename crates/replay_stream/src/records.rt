@@ -1,11 +1,17 @@
 // The fields of records, and the names of kinds.
+ghost use Rattle.std.specs.Prelude.{◌≡◌};
+ghost use Rattle.words.specs.Words.{signed};
+ghost use Rattle.replay_stream.specs.Kinds.{type_name, format_name};
+
 use super::lines;
 use base_block::{FileFormat, FileType};
 use cell_key_node::KeyNode;
 use cell_key_value::KeyValue;
 use console::say;
 
-pub fn file_type(kind: FileType) -> &'static str {
+pub fn file_type(kind: FileType) -> &'static str
+    ensures { result.now ≡ type_name kind }
+{
     match kind {
         FileType::Primary => "primary",
         FileType::TransactionLog => "log",
@@ -14,7 +20,9 @@ pub fn file_type(kind: FileType) -> &'static str {
     }
 }
 
-pub fn file_format(kind: FileFormat) -> &'static str {
+pub fn file_format(kind: FileFormat) -> &'static str
+    ensures { result.now ≡ format_name kind }
+{
     match kind {
         FileFormat::DirectMemoryLoad => "direct",
         FileFormat::UnknownFormat => "unknown",
@@ -22,8 +30,11 @@ pub fn file_format(kind: FileFormat) -> &'static str {
 }
 
 // The signed number that a word's bits are.
-pub fn as_signed(x: u32) -> i32 {
-    i32::from_le_bytes(x.to_le_bytes())
+#[tactic(auto, using(words::proofs::Signed::held), unfolding(words::specs::Words::signed))]
+pub fn as_signed(x: u32) -> i32
+    ensures { result ≡ signed x }
+{
+    x.cast_signed()
 }
 
 // The parts of a base block's image.

@@ -40,38 +40,39 @@ fn patch(image: &mut [u8], at: usize, bytes: &[u8]) {
     }
 }
 
+// What a program gives for a case. (A trait, as it may be called with any case: a function that is handed over owes that.)
+pub trait Answers {
+    fn answer(&self, tag: u8, case: Case, image: &[u8], name: &[u8], out: &mut [u32]);
+}
+
 // A case that is no patch and no length: its line.
-fn line<F: Fn(u8, Case, &[u8], &[u8], &mut [u32])>(
-    answer: &F,
+fn line<A: Answers>(
+    answers: &A,
     tag: u8,
     case: Case,
     image: &[u8],
     name: &[u8],
     out: &mut [u32],
-) -> Result<Case, End>
-    requires { F.IsAlwaysCallable answer.now }
-{
+) -> Result<Case, End> {
     let n = case.image as usize;
     let m = case.name as usize;
     if image.len() < n || name.len() < m {
         return Err(End::BadCase);
     }
     say!("{tag}");
-    answer(tag, case, &image[..n], &name[..m], out);
+    answers.answer(tag, case, &image[..n], &name[..m], out);
     say!("\n");
     Ok(case)
 }
 
 // One case, or one patch or length: the words that it leaves for the next one. A part that the mask leaves out stands as before.
-fn turn<F: Fn(u8, Case, &[u8], &[u8], &mut [u32])>(
-    answer: &F,
+fn turn<A: Answers>(
+    answers: &A,
     old: Case,
     image: &mut [u8],
     name: &mut [u8],
     out: &mut [u32],
-) -> Result<Case, End>
-    requires { F.IsAlwaysCallable answer.now }
-{
+) -> Result<Case, End> {
     let mut start = [0u8; 2];
     match io::read_full(0, &mut start) {
         0 => return Err(End::NoMore),
@@ -104,21 +105,14 @@ fn turn<F: Fn(u8, Case, &[u8], &[u8], &mut [u32])>(
             image: case.a,
             ..case
         }),
-        _ => line(answer, tag, case, image, name, out),
+        _ => line(answers, tag, case, image, name, out),
     }
 }
 
-fn turns<F: Fn(u8, Case, &[u8], &[u8], &mut [u32])>(
-    answer: &F,
-    image: &mut [u8],
-    name: &mut [u8],
-    out: &mut [u32],
-)
-    requires { F.IsAlwaysCallable answer.now }
-{
+fn turns<A: Answers>(answers: &A, image: &mut [u8], name: &mut [u8], out: &mut [u32]) {
     let mut case = Case::default();
     for _turn in 0..u64::MAX {
-        match turn(answer, case, image, name, out) {
+        match turn(answers, case, image, name, out) {
             Ok(next) => case = next,
             Err(End::NoMore) => return,
             Err(End::BadCase) => {
@@ -130,11 +124,9 @@ fn turns<F: Fn(u8, Case, &[u8], &[u8], &mut [u32])>(
 }
 
 // Replays the cases of standard input, in more turns than a run can use up.
-pub fn replay<F: Fn(u8, Case, &[u8], &[u8], &mut [u32])>(answer: F)
-    requires { F.IsAlwaysCallable answer }
-{
+pub fn replay<A: Answers>(answers: &A) {
     let mut image = buffers::bytes_space::<524288>();
     let mut name = buffers::bytes_space::<65536>();
     let mut out = buffers::places_space::<262144>();
-    turns(&answer, &mut image, &mut name, &mut out);
+    turns(answers, &mut image, &mut name, &mut out);
 }

@@ -1,5 +1,7 @@
 // One list, one leaf list's subkeys and the walk, by the ordinary reading and by the strict profile: each called with what a case gives it,
 // and its answer written out.
+ghost use Rattle.std.specs.Prelude.{◌≡◌, ◌+◌, ◌*◌};
+
 use super::buffers;
 use super::lines::{counted, refused, walk_refused};
 use cell_key_node::KeyNode;
@@ -10,7 +12,9 @@ use sub_key_walk::{Counts, LeafRead, WalkRefusal};
 use words::Refusal;
 
 // A number of 64 bits, of two of a case's words.
-pub fn joined(low: u32, high: u32) -> usize {
+pub fn joined(low: u32, high: u32) -> usize
+    ensures { result ≡ low + 4294967296 * high }
+{
     low as usize + 4294967296 * (high as usize)
 }
 

@@ -5,11 +5,14 @@ ghost use Rattle.io.specs.Counts.{IsPrefixLen};
 
 use super::supplier;
 use super::supplier::Which;
+use cell_key_node::KeyNode;
+use console::Stdout;
 use hive_console::input::read_hive;
 use hive_console::stop;
 use hive_console::stop::Stop;
 use std::env;
 use std::fs::File;
+use words::Refusal;
 
 // The most commands in a row.
 const MOST: usize = 65535;
@@ -47,8 +50,22 @@ fn read_listing(rt: &HostRuntime, name: &str, listing: &mut [u8]) -> Result<usiz
     }
 }
 
-// Runs a command on a hive of at most 65,536 bytes. A listing that is checked has at most as many.
-fn run(rt: &HostRuntime, command: &[String]) -> Result<(), Stop> {
+// Checks a listing of at most 65,536 bytes. Its buffer is made for no other command.
+#[inline(never)]
+fn check(
+    rt: &HostRuntime,
+    listing: &str,
+    image: &[u8],
+    key: Result<KeyNode, Refusal>,
+    out: &mut Stdout,
+) -> Result<(), Stop> {
+    let mut bytes = io::large_buffer();
+    let n = read_listing(rt, listing, &mut bytes)?;
+    supplier::check(image, key?, &bytes[..n], out)
+}
+
+// Runs a command on a hive of at most 65,536 bytes.
+fn run(rt: &HostRuntime, command: &[String], out: &mut Stdout) -> Result<(), Stop> {
     let [verb, hive, key, listing] = command else {
         return Err(Stop::NoCommand);
     };
@@ -58,11 +75,9 @@ fn run(rt: &HostRuntime, command: &[String]) -> Result<(), Stop> {
     let which = key_named(key.as_str()).ok_or(Stop::NoCommand)?;
     let key = supplier::key_of(image, which);
     if verb.as_str() == "check" {
-        let mut bytes = io::large_buffer();
-        let n = read_listing(rt, listing.as_str(), &mut bytes)?;
-        supplier::check(image, key?, &bytes[..n])
+        check(rt, listing.as_str(), image, key, out)
     } else if verb.as_str() == "write" && listing.as_str() == "-" {
-        supplier::write(image, key?)
+        supplier::write(image, key?, out)
     } else {
         Err(Stop::NoCommand)
     }
@@ -75,15 +90,17 @@ pub fn run_all(rt: &HostRuntime) -> std::io::Result<()> {
         all.push(word)?;
     }
     let Some((_name, commands)) = all.as_slice().split_first() else {
-        stop::told(Err(Stop::NoCommand));
+        stop::told(Err(Stop::NoCommand), Stdout::new());
         return Ok(());
     };
     if commands.len() % 4 != 0 || 4 * MOST < commands.len() {
-        stop::told(Err(Stop::NoCommand));
+        stop::told(Err(Stop::NoCommand), Stdout::new());
         return Ok(());
     }
     for command in commands.chunks_exact(4) {
-        stop::told(run(rt, command));
+        let mut out = Stdout::new();
+        let outcome = run(rt, command, &mut out);
+        stop::told(outcome, out);
     }
     Ok(())
 }

@@ -24,10 +24,10 @@ pub fn key_of(image: &[u8], which: Which) -> Result<KeyNode, Refusal> {
     }
 }
 
-pub fn check(image: &[u8], key: KeyNode, listing: &[u8]) -> Result<(), Stop> {
+pub fn check(image: &[u8], key: KeyNode, listing: &[u8], out: &mut Stdout) -> Result<(), Stop> {
     let c = sub_key_listing::check_listing(image, key, BUDGET, listing).map_err(|f| f.reason)?;
     writeln!(
-        Stdout,
+        out,
         "accepted {} {} {} {}",
         c.kept, c.lists, c.entries, c.dropped,
     )?;
@@ -35,14 +35,14 @@ pub fn check(image: &[u8], key: KeyNode, listing: &[u8]) -> Result<(), Stop> {
 }
 
 // A line, and behind it the listing: at most 65,536 bytes.
-pub fn write(image: &[u8], key: KeyNode) -> Result<(), Stop> {
-    let mut out = io::large_buffer();
-    let w = sub_key_listing::write_listing(image, key, BUDGET, &mut out).map_err(|f| f.reason)?;
+pub fn write(image: &[u8], key: KeyNode, out: &mut Stdout) -> Result<(), Stop> {
+    let mut listing = io::large_buffer();
+    let w = sub_key_listing::write_listing(image, key, BUDGET, &mut listing).map_err(|f| f.reason)?;
     writeln!(
-        Stdout,
+        out,
         "written {} {} {} {}",
         w.kept, w.lists, w.entries, w.dropped,
     )?;
-    console::bytes(words::part(&out, 0, w.bytes as usize))?;
+    out.bytes(words::part(&listing, 0, w.bytes as usize));
     Ok(())
 }

@@ -58,7 +58,7 @@ fn block(image: &[u8]) {
 }
 
 fn values(image: &[u8], case: Case, out: &mut [u32]) {
-    buffers::prefill(out);
+    buffers::prefill_known(out);
     let answer = cell_key_node::value_list(image, case.c, case.a, as_signed(case.b), out);
     values_line(answer, out);
 }
@@ -143,7 +143,7 @@ fn step_line(step: Result<Option<CellStep>, Refusal>) {
 }
 
 fn deleted(image: &[u8], case: Case, out: &mut [u64]) {
-    buffers::prefill(out);
+    buffers::prefill_known(out);
     match deleted_keys::deleted_keys(image, case.a, case.b, out) {
         Ok(count) => {
             say!(" ok {count}");
@@ -207,7 +207,7 @@ fn put_number(case: Case, out: &mut [u8]) -> bool {
 }
 
 fn put_line(case: Case, out: &mut [u8]) {
-    buffers::prefill(out);
+    buffers::prefill_known(out);
     say!(" ok {}", put_number(case, out) as u8);
     buffers::told(out);
 }
@@ -232,7 +232,7 @@ fn data_line(answer: Result<u32, RoomRefusal>, out: &[u8]) {
 
 // By the words a and b as a record's numbers, or by the record at the position a.
 fn data(image: &[u8], case: Case, out: &mut [u8]) {
-    buffers::prefill(out);
+    buffers::prefill_known(out);
     let answer = value_data::value_data(image, case.c, case.d, case.a, case.b, out);
     data_line(answer, out);
 }
@@ -240,7 +240,7 @@ fn data(image: &[u8], case: Case, out: &mut [u8]) {
 fn data_of(image: &[u8], case: Case, out: &mut [u8]) {
     match cell_key_value::read_key_value(image, case.a as usize) {
         Ok(value) => {
-            buffers::prefill(out);
+            buffers::prefill_known(out);
             let answer = value_data::value_data_of(image, case.c, case.d, value, out);
             data_line(answer, out);
         }

@@ -21,61 +21,94 @@ pub fn places_space<const N: usize>() -> [u32; N]
     [0u32; N]
 }
 
-// What a place holds before: place i of the pattern holds i + 1 times a number, in the width of the places.
+// What a place holds before, one number after another. A pattern may say what holds of the number at each place; of one that says nothing,
+// nothing is known.
 pub trait Pattern: Number + PartialEq {
-    ghost pattern: { ℕ → Self };
+    ghost holds: { ℕ → Self → Type 0 } = { λ i x. Unit {0} };
 
     fn first() -> Self
-        ensures { result ≡ pattern 0 };
+        ensures { holds 0 result };
 
     fn next(self) -> Self
+        ensures { (i : ℕ) → holds i self → holds (i + 1) result };
+}
+
+// A pattern whose number at each place is known. (Its functions have names of their own, so that `first` and `next` are those of
+// `Pattern` alone, whatever is imported.)
+pub trait KnownPattern: Number + PartialEq {
+    ghost pattern: { ℕ → Self };
+
+    fn known_first() -> Self
+        ensures { result ≡ pattern 0 };
+
+    fn known_next(self) -> Self
         ensures { (i : ℕ) → self ≡ pattern i → result ≡ pattern (i + 1) };
 }
 
-impl Pattern for u8 {
+impl<T: KnownPattern> Pattern for T {
+    ghost holds = { λ i x. x ≡ T.pattern i };
+
+    fn first() -> T {
+        T::known_first()
+    }
+
+    fn next(self) -> T {
+        self.known_next()
+    }
+}
+
+// Place i of bytes, of places and of 64-bit places holds i + 1 times a number, in the width of the places.
+impl KnownPattern for u8 {
     ghost pattern = { λ i. (i + 1) * 177 % 2 ^ 8 };
 
-    fn first() -> u8 {
+    fn known_first() -> u8 {
         177
     }
 
-    fn next(self) -> u8 {
+    fn known_next(self) -> u8 {
         self.wrapping_add(177)
     }
 }
 
-impl Pattern for u32 {
+impl KnownPattern for u32 {
     ghost pattern = { λ i. (i + 1) * 2654435761 % 2 ^ 32 };
 
-    fn first() -> u32 {
+    fn known_first() -> u32 {
         2654435761
     }
 
-    fn next(self) -> u32 {
+    fn known_next(self) -> u32 {
         self.wrapping_add(2654435761)
     }
 }
 
-impl Pattern for u64 {
+impl KnownPattern for u64 {
     ghost pattern = { λ i. (i + 1) * 2654435761 % 2 ^ 64 };
 
-    fn first() -> u64 {
+    fn known_first() -> u64 {
         2654435761
     }
 
-    fn next(self) -> u64 {
+    fn known_next(self) -> u64 {
         self.wrapping_add(2654435761)
     }
 }
 
+// Fills a buffer with a pattern.
 pub fn prefill<T: Pattern>(out: &mut [T])
-    ensures { (i : ℕ) → i < length out.new → slice_get out.new i ≡ Some (T.pattern i) }
+    ensures { (i : ℕ) (x : T) → slice_get out.new i ≡ Some x → T.holds i x }
 {
     let mut x = T::first();
     for place in out.iter_mut() {
         *place = x;
         x = x.next();
     }
+}
+
+pub fn prefill_known<T: KnownPattern>(out: &mut [T])
+    ensures { (i : ℕ) → i < length out.new → slice_get out.new i ≡ Some (T.pattern i) }
+{
+    prefill(out);
 }
 
 // How many places from `from` on hold the pattern.

@@ -30,7 +30,7 @@ fn step(
     base: u32,
     out: &mut [u8],
 ) -> Result<u32, RoomRefusal> {
-    buffers::prefill(out);
+    buffers::prefill_known(out);
     let answer = match kind {
         As::Lh => list_conversion::write_lh(list, position, image, base, out),
         As::Li => list_conversion::write_li(list, position, out),

@@ -34,7 +34,7 @@ fn written(
     budget: u32,
     out: &mut [u8],
 ) -> Result<Written, WriteRefusal> {
-    buffers::prefill(out);
+    buffers::prefill_known(out);
     let answer = sub_key_listing::write_listing(image, key, budget, out);
     match answer {
         Ok(whole) => say!(

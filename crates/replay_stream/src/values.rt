@@ -32,7 +32,7 @@ pub fn lookup_line(answer: Result<FoundValue, Refusal>) {
 
 // From a key record, which is held to its place.
 pub fn values_of(image: &[u8], key: KeyNode, out: &mut [u32]) {
-    buffers::prefill(out);
+    buffers::prefill_known(out);
     let answer = key_in_place::value_list_of(image, key, out);
     values_line(answer, out);
 }

@@ -75,7 +75,7 @@ fn list(tag: u8, case: Case, image: &[u8]) {
 }
 
 fn walk(tag: u8, case: Case, image: &[u8], name: &[u8], out: &mut [u32]) {
-    buffers::prefill(out);
+    buffers::prefill_known(out);
     let answer = if tag == 5 {
         sub_key_walk::sub_keys(image, case.c, case.a, case.b, case.d, out)
     } else {
@@ -87,7 +87,7 @@ fn walk(tag: u8, case: Case, image: &[u8], name: &[u8], out: &mut [u32]) {
 
 // From a key record, which is held to its place.
 pub fn walk_of(strict: bool, image: &[u8], key: KeyNode, budget: u32, minor: u32, out: &mut [u32]) {
-    buffers::prefill(out);
+    buffers::prefill_known(out);
     let answer = if strict {
         key_in_place::strict_sub_keys_of(image, key, budget, minor, out)
     } else {
@@ -99,7 +99,7 @@ pub fn walk_of(strict: bool, image: &[u8], key: KeyNode, budget: u32, minor: u32
 // The position has 64 bits, the words a and b.
 fn leaf(tag: u8, case: Case, image: &[u8], out: &mut [u32]) {
     let position = joined(case.a, case.b);
-    buffers::prefill(out);
+    buffers::prefill_known(out);
     let answer = if tag == 16 {
         sub_key_walk::leaf_sub_keys(image, case.c, position, out)
     } else {

@@ -1,6 +1,7 @@
 // Cases of a buffer that is filled with a pattern, one line each: what it is about, the numbers that stand there, and what `written` tells
-// of it, the first two places being written: their two sums, and how many of the others hold the pattern. The pattern of `Hundreds` says
-// nothing of its numbers; that of bytes, of places and of 64-bit places is known.
+// of it, the first two places being written: their two sums, and how many of the others hold the pattern. In the last two nothing is
+// written, and `untouched` tells of all places. The pattern of `Hundreds` says nothing of its numbers; that of bytes, of places and of
+// 64-bit places is known.
 #![tactic(auto)]
 
 use console::say;
@@ -53,12 +54,20 @@ fn known<T: KnownPattern>(label: &str, row: &mut [T]) {
     tell(label, row);
 }
 
-// The third place with the number that the pattern begins with.
+// The third place with the number that the pattern has second.
 fn overwritten(label: &str) {
     let mut row = [Hundreds { x: 0 }; 4];
     buffers::prefill(&mut row);
-    row[2] = Hundreds::first();
+    row[2] = Hundreds::first().next();
     tell(label, &row);
+}
+
+// Nothing is written: how many places hold the pattern.
+fn unwritten<T: Pattern>(label: &str, row: &mut [T]) {
+    buffers::prefill(row);
+    say!("{label}");
+    buffers::untouched(row, 0);
+    say!("\n");
 }
 
 fn main() {
@@ -69,4 +78,6 @@ fn main() {
     known("places, known", &mut [0u32; 4]);
     known("64-bit places, known", &mut [0u64; 4]);
     known::<u8>("no byte, known", &mut []);
+    unwritten("hundreds, none written", &mut [Hundreds { x: 0 }; 4]);
+    unwritten("64-bit places, none written", &mut [0u64; 3]);
 }

@@ -1,7 +1,7 @@
 // Cases of a buffer that is filled with a pattern, one line each: what it is about, the numbers that stand there, and what `written` tells
-// of it, the first two places being written: their two sums, and how many of the others hold the pattern. In the last two nothing is
-// written, and `untouched` tells of all places. The pattern of `Hundreds` says nothing of its numbers; that of bytes, of places and of
-// 64-bit places is known.
+// of it, the first two places being written: their two sums (none of a buffer that has fewer), and how many of the others hold the pattern.
+// In the last two nothing is written and no number is told: `untouched` tells how many of all places hold the pattern. The pattern of
+// `Hundreds` says nothing of its numbers; that of bytes, of places and of 64-bit places is known.
 #![tactic(auto)]
 
 use console::say;

@@ -11,7 +11,7 @@ import sys
 
 OLD = sys.argv[1]
 NEW = sys.argv[2] if len(sys.argv) > 2 else 'HEAD'
-PROGRAMS = set('''base_block_cases bin_cases bins_listing deleted_listing hive_listing hive_names hive_tour listing_cases record_cases replay_listings
+PROGRAMS = set('''base_block_cases bin_cases bins_listing buffer_cases deleted_listing hive_listing hive_names hive_tour listing_cases record_cases replay_listings
 replay_paper replay_parts replay_rust sub_key_cases supplier_listing console hive_console root_listing replay_stream'''.split())
 
 

@@ -45,6 +45,7 @@ pub trait KnownPattern: Number + PartialEq {
         ensures { (i : ℕ) → self ≡ pattern i → result ≡ pattern (i + 1) };
 }
 
+// A known pattern is a pattern, and says of each place which number stands there.
 impl<T: KnownPattern> Pattern for T {
     ghost holds = { λ i x. x ≡ T.pattern i };
 
@@ -94,7 +95,7 @@ impl KnownPattern for u64 {
     }
 }
 
-// Fills a buffer with a pattern.
+// Fills a buffer with a pattern: what it says of a place holds of the number that stands there then.
 pub fn prefill<T: Pattern>(out: &mut [T])
     ensures { (i : ℕ) (x : T) → slice_get out.new i ≡ Some x → T.holds i x }
 {
@@ -105,6 +106,7 @@ pub fn prefill<T: Pattern>(out: &mut [T])
     }
 }
 
+// Fills a buffer with a known pattern, so that the number at each place is known.
 pub fn prefill_known<T: KnownPattern>(out: &mut [T])
     ensures { (i : ℕ) → i < length out.new → slice_get out.new i ≡ Some (T.pattern i) }
 {
